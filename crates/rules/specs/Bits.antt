@@ -37,5 +37,5 @@ field s i w = val (take w (drop i (bits s)))
 
 -- every number of the list is below m: bits below 2, bytes below 256
 pub data Below (m : ℕ) : List ℕ → Type 0 where
-  none : Below m []
-  more : {x : ℕ} {xs : List ℕ} → x < m → Below m xs → Below m (x ∷ xs)
+  nil : Below m []
+  cons : {x : ℕ} {xs : List ℕ} → x < m → Below m xs → Below m (x ∷ xs)
