@@ -1,1 +1,4 @@
+pub mod Basic
+pub mod Row
+pub mod Street
 pub mod Bits
