@@ -2,3 +2,9 @@ pub mod Basic
 pub mod Row
 pub mod Street
 pub mod Bits
+pub mod Sheet
+pub mod Film
+pub mod WireRules
+pub mod Judgement
+pub mod Answers
+pub mod Specimens

@@ -1,0 +1,160 @@
+-- Document 01, 'When the software says no': what router, reader, agreement test and drawer say, and every byte of the buffers after the call.
+use mathlib.Core.Path.{_≡_}
+use mathlib.Core.Bool.{Bool, true, false, not, _&&_, _||_}
+use mathlib.Core.List.{List, [], _∷_, _++_}
+use mathlib.Core.Option.{Option, none, some, Option·map}
+use Prim.Native.Nat.{ℕ, suc, _*_}
+use lib.ListN.{length, drop, replicate}
+use lib.Dec.{eqb, ltb}
+use Rattle.rules.specs.declared.Limits.{Limits}
+use Rattle.rules.specs.declared.Limits.the-variants.{Met, Upper, Lower, Sum}
+use Rattle.rules.specs.declared.Fault.{Fault}
+use Rattle.rules.specs.declared.Routing.{Routing}
+use Rattle.rules.specs.declared.Reading.{Reading}
+use Rattle.rules.specs.declared.Drawing.{Drawing}
+use Rattle.rules.specs.Basic.{every, least, keep, orElse, settle, isNone}
+use Rattle.rules.specs.Row.{joined, nodes, lone}
+use Rattle.rules.specs.Street.{first, failing}
+use Rattle.rules.specs.Sheet.{takes, size, sheet, countOf, rowOf}
+use Rattle.rules.specs.Film.{Rec, records, filmBytes}
+use Rattle.rules.specs.Judgement.{wrongCount, head, room, middle, tail, judge}
+
+-- an answer's number and place
+pub record Said : Type 0 where
+  pub number : ℕ
+  pub place : ℕ
+
+abbrev pub says : ℕ → ℕ → Said
+says number place = record { number = number; place = place }
+
+-- each of the three limits is 17
+unfoldable pub limitNumber : Limits → ℕ
+limitNumber Limits.Met = 0
+limitNumber Limits.Upper = 17
+limitNumber Limits.Lower = 17
+limitNumber Limits.Sum = 17
+
+unfoldable pub faultSaid : Fault → Said
+faultSaid Fault.Head = says 11 0
+faultSaid Fault.Tracks = says 12 0
+faultSaid Fault.Length = says 13 0
+faultSaid (Fault.Kind i) = says 15 i
+faultSaid (Fault.Position i) = says 16 i
+faultSaid (Fault.Street l i) = says (limitNumber l) i
+faultSaid (Fault.Open n) = says 18 n
+faultSaid Fault.Padding = says 19 0
+
+unfoldable pub routeSaid : Routing → Said
+routeSaid (Routing.Sheet n) = says 0 n
+routeSaid Routing.RowLength = says 1 0
+routeSaid Routing.Tracks = says 2 0
+routeSaid (Routing.Lone i) = says 3 i
+routeSaid Routing.WorkShort = says 4 0
+routeSaid Routing.SheetShort = says 5 0
+routeSaid (Routing.Stuck i) = says 6 i
+
+unfoldable pub readSaid : Reading → Said
+readSaid (Reading.Row n) = says 0 n
+readSaid Reading.RowShort = says 14 0
+readSaid (Reading.Unfit e) = faultSaid e
+
+unfoldable pub drawSaid : Drawing → Said
+drawSaid (Drawing.Film k) = says 0 k
+drawSaid Drawing.FilmShort = says 21 0
+drawSaid (Drawing.Unfit e) = faultSaid e
+
+-- what is written fills the start of its buffer, the rest is untouched
+unfoldable pub written : List ℕ → List ℕ → List ℕ
+written new buffer = new ++ drop (length new) buffer
+
+-- the router's checks 1 to 5
+unfoldable pub refusal : (row : List ℕ) (ku kl work sheet : ℕ) → Option Routing
+refusal row ku kl work sheet =
+    let n = length row in
+    let i = least (lone row) n in
+    orElse (keep (wrongCount n) Routing.RowLength)
+    (orElse (keep (not (takes ku kl)) Routing.Tracks)
+    (orElse (keep (ltb i n) (Routing.Lone (suc i)))
+    (orElse (keep (ltb work (90 * n)) Routing.WorkShort) (keep (ltb sheet (size n)) Routing.SheetShort))))
+
+-- 6, or accepted
+unfoldable pub outcome : (row : List ℕ) (ku kl : ℕ) → Option (List ℕ) → Routing
+outcome row ku kl none = Routing.Stuck (suc (failing ku kl (nodes row)))
+outcome row ku kl (some ps) = Routing.Sheet (length row)
+
+-- the router's answer; of its buffers only the lengths matter
+unfoldable pub routing : (row : List ℕ) (ku kl : ℕ) (work sheet : List ℕ) → Routing
+routing row ku kl work sheet =
+    let late = outcome row ku kl (first ku kl (nodes row)) in settle (refusal row ku kl (length work) (length sheet)) late
+
+-- the sheet of a row's first placing
+unfoldable pub firstSheet : (row : List ℕ) (ku kl : ℕ) → List ℕ
+firstSheet row ku kl = sheet ku kl (nodes row) (settle (first ku kl (nodes row)) [])
+
+-- the first 90 × n bytes of work are zero after 6 and after accepted rows
+unfoldable pub cleared : (row work : List ℕ) → List ℕ
+cleared row work = written (replicate (90 * length row) 0) work
+
+unfoldable pub workAfter : Routing → (row work : List ℕ) → List ℕ
+workAfter (Routing.Sheet n) row work = cleared row work
+workAfter Routing.RowLength row work = work
+workAfter Routing.Tracks row work = work
+workAfter (Routing.Lone i) row work = work
+workAfter Routing.WorkShort row work = work
+workAfter Routing.SheetShort row work = work
+workAfter (Routing.Stuck i) row work = cleared row work
+
+unfoldable pub sheetAfter : Routing → (row : List ℕ) (ku kl : ℕ) (sheet : List ℕ) → List ℕ
+sheetAfter (Routing.Sheet n) row ku kl sheet = written (firstSheet row ku kl) sheet
+sheetAfter Routing.RowLength row ku kl sheet = sheet
+sheetAfter Routing.Tracks row ku kl sheet = sheet
+sheetAfter (Routing.Lone i) row ku kl sheet = sheet
+sheetAfter Routing.WorkShort row ku kl sheet = sheet
+sheetAfter Routing.SheetShort row ku kl sheet = sheet
+sheetAfter (Routing.Stuck i) row ku kl sheet = sheet
+
+-- the reader's answer
+unfoldable pub reading : (s row : List ℕ) → Reading
+reading s row =
+    settle
+    (orElse (Option·map Reading.Unfit (head s))
+    (orElse (keep (room s row) Reading.RowShort) (Option·map Reading.Unfit (orElse (middle s) (tail s)))))
+    (Reading.Row (countOf s))
+
+unfoldable pub rowAfter : Reading → (s row : List ℕ) → List ℕ
+rowAfter (Reading.Row n) s row = written (rowOf s) row
+rowAfter Reading.RowShort s row = row
+rowAfter (Reading.Unfit e) s row = row
+
+-- two rows join the same pins, as a test
+unfoldable pub samePins : (row row′ : List ℕ) → Bool
+samePins row row′ =
+    let n = length row in
+    eqb n (length row′) && every (λ i. every (λ j. alike (joined row i j) (joined row′ i j)) n) n
+  where
+    alike : Bool → Bool → Bool
+    alike true b = b
+    alike false b = not b
+
+-- the agreement test's answer
+unfoldable pub agrees : (row s : List ℕ) → Bool
+agrees row s = isNone (judge s) && samePins row (rowOf s)
+
+-- the drawer's answer; a record has 5 bytes
+unfoldable pub drawing : (s film : List ℕ) → Drawing
+drawing s film =
+    let k = length (records 16 s) in
+    settle (orElse (Option·map Drawing.Unfit (judge s)) (keep (ltb (length film) (5 * k)) Drawing.FilmShort)) (Drawing.Film k)
+
+-- one list is the other in some order
+pub data Reordered {ℓ} {A : Type ℓ} : List A → List A → Type ℓ where
+  nil : Reordered [] []
+  cons : {x : A} {xs ys : List A} → Reordered xs ys → Reordered (x ∷ xs) (x ∷ ys)
+  swap : {x y : A} {xs : List A} → Reordered (x ∷ y ∷ xs) (y ∷ x ∷ xs)
+  both : {xs ys zs : List A} → Reordered xs ys → Reordered ys zs → Reordered xs zs
+
+-- the film's bytes after the call: accepted, it starts with the sheet's records, each once and no others, in an order that is left free
+unfoldable pub FilmAfter : Drawing → (s film after : List ℕ) → Type 0
+FilmAfter (Drawing.Film k) s film after = (rs : List Rec) × Reordered rs (records 16 s) × (after ≡ written (filmBytes rs) film)
+FilmAfter Drawing.FilmShort s film after = after ≡ film
+FilmAfter (Drawing.Unfit e) s film after = after ≡ film

@@ -1,0 +1,101 @@
+-- Document 01, 'The sheet': its fields, its bytes, the sheet of a placing, and the row that the reader gives back.
+--
+-- "Sheet" is document 01's own term.
+use mathlib.Core.Bool.{Bool, _&&_}
+use mathlib.Core.List.{List, [], _∷_, _++_}
+use Prim.Native.Nat.{ℕ, zero, suc, _+_, _-_, _*_, _/_}
+use lib.ListN.{length, getD, drop}
+use lib.Dec.{leb}
+use Rattle.rules.specs.Basic.{tabulate}
+use Rattle.rules.specs.Row.{Kind, B, M, E, Node, node}
+use Rattle.rules.specs.Street.{kind, next}
+use Rattle.rules.specs.Bits.{digits, val, bits, bytes, field}
+
+-- the track counts that the router takes
+unfoldable pub takes : (ku kl : ℕ) → Bool
+takes ku kl = leb ku 3 && leb kl 3
+
+-- the kind field: B 0, M 1, E 2
+unfoldable pub code : Kind → ℕ
+code B = 0
+code M = 1
+code E = 2
+
+-- the kind of a kind field; 3 is none, and is refused before anything else is read there
+unfoldable pub kindIn : ℕ → Kind
+kindIn zero = B
+kindIn (suc zero) = M
+kindIn (suc (suc f)) = E
+
+-- a node's two fields: its kind, and p − 1, the number of nets above its own
+pub data Entry : Type 0 where
+  entry : (kind above : ℕ) → Entry
+
+-- the entries of nodes with their positions
+unfoldable pub entries : List Node → List ℕ → List Entry
+entries [] ps = []
+entries (n ∷ ns) [] = []
+entries (n ∷ ns) (p ∷ ps) = entry (code (kind n)) (p - 1) ∷ entries ns ps
+
+-- six bits an entry
+unfoldable pub entryBits : List Entry → List ℕ
+entryBits [] = []
+entryBits (entry f a ∷ es) = digits 2 f ++ (digits 4 a ++ entryBits es)
+
+-- the bytes of a sheet of n nodes: 2 + ⌈3n/4⌉
+unfoldable pub size : ℕ → ℕ
+size n = 2 + (3 * n + 3) / 4
+
+-- the bits behind its last node
+unfoldable pub padding : ℕ → ℕ
+padding n = 8 * size n - (16 + 6 * n)
+
+-- a sheet's bits: Ku in 4, Kl in 2, n in 10, the entries, zero bits to the end of the byte
+unfoldable pub sheetBits : (ku kl : ℕ) → List Entry → List ℕ
+sheetBits ku kl es =
+    digits 4 ku ++ (digits 2 kl ++ (digits 10 (length es) ++ (entryBits es ++ digits (padding (length es)) 0)))
+
+-- the sheet of nodes with their positions
+unfoldable pub sheet : (ku kl : ℕ) → List Node → List ℕ → List ℕ
+sheet ku kl ns ps = bytes (sheetBits ku kl (entries ns ps))
+
+-- what stands in a sheet's fields
+unfoldable pub upperOf : List ℕ → ℕ
+upperOf s = field s 0 4
+
+unfoldable pub lowerOf : List ℕ → ℕ
+lowerOf s = field s 4 2
+
+unfoldable pub countOf : List ℕ → ℕ
+countOf s = field s 6 10
+
+unfoldable pub entryAt : List ℕ → ℕ → Entry
+entryAt s i = entry (field s (16 + 6 * i) 2) (field s (18 + 6 * i) 4)
+
+unfoldable pub entriesOf : List ℕ → List Entry
+entriesOf s = tabulate (entryAt s) (countOf s)
+
+unfoldable pub paddingOf : List ℕ → ℕ
+paddingOf s = val (drop (16 + 6 * countOf s) (bits s))
+
+-- the nets begun after a node, where n were before it
+unfoldable pub begun : Kind → ℕ → ℕ
+begun B n = suc n
+begun M n = n
+begun E n = n
+
+-- the label at a node: of a new net the next number, else that of the net with a others above
+unfoldable pub labelled : Kind → ℕ → ℕ → List ℕ → ℕ
+labelled B a n o = n
+labelled M a n o = getD o a 0
+labelled E a n o = getD o a 0
+
+-- the labels from an order of labels on, with n nets begun: nets are 0, 1, 2 in the order of their first nodes
+unfoldable pub labels : ℕ → List ℕ → List Entry → List ℕ
+labels n o [] = []
+labels n o (entry f a ∷ es) =
+    labelled (kindIn f) a n o ∷ labels (begun (kindIn f) n) (next (node (kindIn f) n) o (suc a)) es
+
+-- the row that the reader gives back
+unfoldable pub rowOf : List ℕ → List ℕ
+rowOf s = labels 0 [] (entriesOf s)
