@@ -1,1 +1,2 @@
+pub mod Pins
 pub mod Specimens

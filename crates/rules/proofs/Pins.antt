@@ -1,0 +1,157 @@
+-- Two rows join the same pins exactly when the street rules see the same nodes in them.
+use mathlib.Core.Path.{_≡_, refl, sym, ap, ap₂, _∙_}
+use mathlib.Core.Bool.{Bool, true, false, _&&_}
+use mathlib.Core.List.{List, [], _∷_}
+use mathlib.Core.Logic.{_↔_}
+use Prim.Native.Nat.{ℕ, zero, suc, _+_, _-_, _≤_, _<_}
+use native.Mathlib.Nat.{le-of-suc-le-suc, not-suc-le-zero, add-suc, suc-add}
+use native.Mathlib.Omega.{arith}
+use lib.ListN.{length, getD, drop, length-drop}
+use lib.Seq.{getD-drop}
+use lib.Dec.{eqb, ltb}
+use borrow.Author.Tests.{eqb-true, eqb-false, eq-eqb, ne-eqb}
+use Rattle.rules.specs.Basic.{pick, tabulate, least}
+use Rattle.rules.specs.Row.{before, has, joined, home, later, Node, node, nodeAt, nodes, kindOf, SamePins}
+
+-- ---- tables and least numbers
+
+pub length-tabulate {ℓ} : {A : Type ℓ} (f : ℕ → A) (n : ℕ) → length (tabulate f n) ≡ n
+unfolding tabulate
+length-tabulate f zero = refl
+length-tabulate f (suc n) = ap suc (length-tabulate (λ i. f (suc i)) n)
+
+pub getD-tabulate {ℓ} : {A : Type ℓ} (f : ℕ → A) (n i : ℕ) (d : A) → i < n → getD (tabulate f n) i d ≡ f i
+unfolding tabulate
+getD-tabulate f zero i d h = absurd (not-suc-le-zero h)
+getD-tabulate f (suc n) zero d h = refl
+getD-tabulate f (suc n) (suc i) d h = getD-tabulate (λ j. f (suc j)) n i d (le-of-suc-le-suc h)
+
+pub tabulate-cong {ℓ} : {A : Type ℓ} (f g : ℕ → A) (n : ℕ) → ((i : ℕ) → i < n → f i ≡ g i) → tabulate f n ≡ tabulate g n
+unfolding tabulate
+tabulate-cong f g zero h = refl
+tabulate-cong {A = A} f g (suc n) h =
+    ap₂ {C = List A} (λ x l. x ∷ l) (h 0 (omega arith)) (tabulate-cong (λ i. f (suc i)) (λ i. g (suc i)) n (λ i l. h (suc i) (omega arith)))
+
+pub least-cong : (f g : ℕ → Bool) (n : ℕ) → ((i : ℕ) → i < n → f i ≡ g i) → least f n ≡ least g n
+unfolding least
+least-cong f g zero h = refl
+least-cong f g (suc n) h =
+    ap₂ (λ b k. pick b 0 (suc k)) (h 0 (omega arith)) (least-cong (λ i. f (suc i)) (λ i. g (suc i)) n (λ i l. h (suc i) (omega arith)))
+
+-- what stands before x, as a least number
+pub before-least : (x : ℕ) (l : List ℕ) → before x l ≡ least (λ j. eqb (getD l j 0) x) (length l)
+unfolding before least
+before-least x [] = refl
+before-least x (y ∷ l) = ap (λ k. pick (eqb y x) 0 (suc k)) (before-least x l)
+
+-- ---- the first node of a net
+
+pub at-before : (x : ℕ) (l : List ℕ) → before x l < length l → getD l (before x l) 0 ≡ x
+unfolding before pick
+at-before x [] h = absurd (not-suc-le-zero h)
+at-before x (y ∷ l) h = go (eqb y x) refl h (at-before x l)
+  where
+    go : (t : Bool) → eqb y x ≡ t → pick t 0 (suc (before x l)) < suc (length l) → (before x l < length l → getD l (before x l) 0 ≡ x)
+        → getD (y ∷ l) (pick t 0 (suc (before x l))) 0 ≡ x
+    go true e h′ ih = eqb-true y x e
+    go false e h′ ih = ih (le-of-suc-le-suc h′)
+
+-- the first of a label stands at or before each node that has it
+pub before-le : (l : List ℕ) (i : ℕ) → i < length l → before (getD l i 0) l ≤ i
+unfolding before pick
+before-le [] i h = absurd (not-suc-le-zero h)
+before-le (y ∷ l) zero h = rw (eq-eqb y y refl) (omega arith)
+before-le (y ∷ l) (suc i) h = go (eqb y (getD l i 0)) (before-le l i (le-of-suc-le-suc h))
+  where
+    go : (t : Bool) → before (getD l i 0) l ≤ i → pick t 0 (suc (before (getD l i 0) l)) ≤ suc i
+    go true ih = omega arith
+    go false ih = omega arith
+
+pub home-le : (row : List ℕ) (i : ℕ) → i < length row → home row i ≤ i
+unfolding home
+home-le row i h = before-le row i h
+
+pub label-home : (row : List ℕ) (i : ℕ) → i < length row → getD row (home row i) 0 ≡ getD row i 0
+unfolding home
+label-home row i h = at-before (getD row i 0) row (omega (arith, before-le row i h))
+
+-- nodes are in one net exactly where their nets' first nodes are one
+pub joined-home : (row : List ℕ) (i j : ℕ) → i < length row → j < length row → joined row i j ≡ eqb (home row i) (home row j)
+unfolding joined home
+joined-home row i j hi hj = go (eqb (getD row i 0) (getD row j 0)) refl
+  where
+    go : (t : Bool) → eqb (getD row i 0) (getD row j 0) ≡ t → eqb (getD row i 0) (getD row j 0) ≡ eqb (home row i) (home row j)
+    go true e = e ∙ sym (eq-eqb (home row i) (home row j) (ap (λ x. before x row) (eqb-true (getD row i 0) (getD row j 0) e)))
+    go false e =
+        e ∙ sym (ne-eqb (home row i) (home row j)
+        (λ h. eqb-false (getD row i 0) (getD row j 0) e (sym (label-home row i hi) ∙ ap (λ k. getD row k 0) h ∙ label-home row j hj)))
+
+-- ---- home and later from joined nodes alone
+
+pub home-least : (row : List ℕ) (i : ℕ) → home row i ≡ least (λ j. joined row j i) (length row)
+unfolding home joined
+home-least row i = before-least (getD row i 0) row
+
+pub later-least : (row : List ℕ) (i : ℕ)
+    → later row i ≡ ltb (least (λ j. joined row (suc i + j) i) (length row - suc i)) (length row - suc i)
+unfolding later has joined
+later-least row i =
+    ap₂ (λ a b. ltb a b)
+    (before-least (getD row i 0) (drop (suc i) row)
+    ∙ ap (λ n. least (λ j. eqb (getD (drop (suc i) row) j 0) (getD row i 0)) n) (length-drop (suc i) row)
+    ∙ least-cong (λ j. eqb (getD (drop (suc i) row) j 0) (getD row i 0)) (λ j. eqb (getD row (suc i + j) 0) (getD row i 0)) (length row - suc i)
+    (λ j h. ap (λ y. eqb y (getD row i 0)) (getD-drop (suc i) row j 0)))
+    (length-drop (suc i) row)
+
+-- ---- the theorem
+
+module _ (row row′ : List ℕ) where
+  same-node : SamePins row row′ → (i : ℕ) → i < length row → nodeAt row i ≡ nodeAt row′ i
+  unfolding nodeAt
+  same-node s i h = ap₂ (λ a b. node (kindOf (eqb a i) b) a) same-home same-later
+    where
+      same-home : home row i ≡ home row′ i
+      same-home =
+          home-least row i
+          ∙ least-cong (λ j. joined row j i) (λ j. joined row′ j i) (length row) (λ j l. s .joins j i l h)
+          ∙ ap (λ n. least (λ j. joined row′ j i) n) (s .count)
+          ∙ sym (home-least row′ i)
+
+      same-later : later row i ≡ later row′ i
+      same-later =
+          later-least row i
+          ∙ ap (λ k. ltb k (length row - suc i))
+          (least-cong (λ j. joined row (suc i + j) i) (λ j. joined row′ (suc i + j) i) (length row - suc i) (λ j l. s .joins (suc i + j) i (omega arith) h))
+          ∙ ap (λ n. ltb (least (λ j. joined row′ (suc i + j) i) (n - suc i)) (n - suc i)) (s .count)
+          ∙ sym (later-least row′ i)
+
+  pub same-nodes : SamePins row row′ → nodes row ≡ nodes row′
+  unfolding nodes
+  same-nodes s = tabulate-cong (nodeAt row) (nodeAt row′) (length row) (same-node s) ∙ ap (tabulate (nodeAt row′)) (s .count)
+
+  same-homes : nodes row ≡ nodes row′ → length row ≡ length row′ → (i : ℕ) → i < length row → home row i ≡ home row′ i
+  unfolding nodes nodeAt
+  same-homes e n i h =
+      ap net
+      (sym (getD-tabulate (nodeAt row) (length row) i (node (kindOf true true) 0) h)
+      ∙ ap (λ l. getD l i (node (kindOf true true) 0)) e
+      ∙ getD-tabulate (nodeAt row′) (length row′) i (node (kindOf true true) 0) (omega arith))
+    where
+      net : Node → ℕ
+      net (node k x) = x
+
+  pub nodes-same : nodes row ≡ nodes row′ → SamePins row row′
+  unfolding nodes
+  nodes-same e =
+      let n : length row ≡ length row′ = sym (length-tabulate (nodeAt row) (length row)) ∙ ap length e ∙ length-tabulate (nodeAt row′) (length row′) in
+      record {
+        count = n;
+        joins = λ i j hi hj.
+            joined-home row i j hi hj
+            ∙ ap₂ (λ a b. eqb a b) (same-homes e n i hi) (same-homes e n j hj)
+            ∙ sym (joined-home row′ i j (omega arith) (omega arith));
+      }
+
+  -- two rows join the same pins exactly when the street rules see the same nodes
+  pub pins-nodes : SamePins row row′ ↔ (nodes row ≡ nodes row′)
+  pins-nodes = (same-nodes, nodes-same)
