@@ -1,6 +1,6 @@
 -- Two rows join the same pins exactly when the street rules see the same nodes in them.
 use mathlib.Core.Path.{_≡_, refl, sym, ap, ap₂, _∙_}
-use mathlib.Core.Bool.{Bool, true, false, _&&_}
+use mathlib.Core.Bool.{Bool, true, false, not, _&&_}
 use mathlib.Core.List.{List, [], _∷_}
 use mathlib.Core.Logic.{_↔_}
 use Prim.Native.Nat.{ℕ, zero, suc, _+_, _-_, _≤_, _<_}
@@ -10,8 +10,11 @@ use lib.ListN.{length, getD, drop, length-drop}
 use lib.Seq.{getD-drop}
 use lib.Dec.{eqb, ltb}
 use borrow.Author.Tests.{eqb-true, eqb-false, eq-eqb, ne-eqb}
-use Rattle.rules.specs.Basic.{pick, tabulate, least}
-use Rattle.rules.specs.Row.{before, has, joined, home, later, Node, node, nodeAt, nodes, kindOf, SamePins}
+use Rattle.rules.specs.Basic.{pick, tabulate, least, settle}
+use Rattle.rules.specs.Row.{before, has, joined, home, later, Node, node, nodeAt, nodes, kindOf, lone, SamePins}
+use Rattle.rules.specs.Street.{first, failing}
+use Rattle.rules.specs.Sheet.{sheet}
+use Rattle.rules.specs.Answers.{routing, firstLone, refusal, outcome, firstSheet}
 
 -- ---- tables and least numbers
 
@@ -39,10 +42,10 @@ least-cong f g (suc n) h =
     ap₂ (λ b k. pick b 0 (suc k)) (h 0 (omega arith)) (least-cong (λ i. f (suc i)) (λ i. g (suc i)) n (λ i l. h (suc i) (omega arith)))
 
 -- what stands before x, as a least number
-pub before-least : (x : ℕ) (l : List ℕ) → before x l ≡ least (λ j. eqb (getD l j 0) x) (length l)
+pub before-foundast : (x : ℕ) (l : List ℕ) → before x l ≡ least (λ j. eqb (getD l j 0) x) (length l)
 unfolding before least
-before-least x [] = refl
-before-least x (y ∷ l) = ap (λ k. pick (eqb y x) 0 (suc k)) (before-least x l)
+before-foundast x [] = refl
+before-foundast x (y ∷ l) = ap (λ k. pick (eqb y x) 0 (suc k)) (before-foundast x l)
 
 -- ---- the first node of a net
 
@@ -57,11 +60,11 @@ at-before x (y ∷ l) h = go (eqb y x) refl h (at-before x l)
     go false e h′ ih = ih (le-of-suc-le-suc h′)
 
 -- the first of a label stands at or before each node that has it
-pub before-le : (l : List ℕ) (i : ℕ) → i < length l → before (getD l i 0) l ≤ i
+pub before-found : (l : List ℕ) (i : ℕ) → i < length l → before (getD l i 0) l ≤ i
 unfolding before pick
-before-le [] i h = absurd (not-suc-le-zero h)
-before-le (y ∷ l) zero h = rw (eq-eqb y y refl) (omega arith)
-before-le (y ∷ l) (suc i) h = go (eqb y (getD l i 0)) (before-le l i (le-of-suc-le-suc h))
+before-found [] i h = absurd (not-suc-le-zero h)
+before-found (y ∷ l) zero h = rw (eq-eqb y y refl) (omega arith)
+before-found (y ∷ l) (suc i) h = go (eqb y (getD l i 0)) (before-found l i (le-of-suc-le-suc h))
   where
     go : (t : Bool) → before (getD l i 0) l ≤ i → pick t 0 (suc (before (getD l i 0) l)) ≤ suc i
     go true ih = omega arith
@@ -69,11 +72,11 @@ before-le (y ∷ l) (suc i) h = go (eqb y (getD l i 0)) (before-le l i (le-of-su
 
 pub home-le : (row : List ℕ) (i : ℕ) → i < length row → home row i ≤ i
 unfolding home
-home-le row i h = before-le row i h
+home-le row i h = before-found row i h
 
 pub label-home : (row : List ℕ) (i : ℕ) → i < length row → getD row (home row i) 0 ≡ getD row i 0
 unfolding home
-label-home row i h = at-before (getD row i 0) row (omega (arith, before-le row i h))
+label-home row i h = at-before (getD row i 0) row (omega (arith, before-found row i h))
 
 -- nodes are in one net exactly where their nets' first nodes are one
 pub joined-home : (row : List ℕ) (i j : ℕ) → i < length row → j < length row → joined row i j ≡ eqb (home row i) (home row j)
@@ -90,14 +93,14 @@ joined-home row i j hi hj = go (eqb (getD row i 0) (getD row j 0)) refl
 
 pub home-least : (row : List ℕ) (i : ℕ) → home row i ≡ least (λ j. joined row j i) (length row)
 unfolding home joined
-home-least row i = before-least (getD row i 0) row
+home-least row i = before-foundast (getD row i 0) row
 
 pub later-least : (row : List ℕ) (i : ℕ)
     → later row i ≡ ltb (least (λ j. joined row (suc i + j) i) (length row - suc i)) (length row - suc i)
 unfolding later has joined
 later-least row i =
     ap₂ (λ a b. ltb a b)
-    (before-least (getD row i 0) (drop (suc i) row)
+    (before-foundast (getD row i 0) (drop (suc i) row)
     ∙ ap (λ n. least (λ j. eqb (getD (drop (suc i) row) j 0) (getD row i 0)) n) (length-drop (suc i) row)
     ∙ least-cong (λ j. eqb (getD (drop (suc i) row) j 0) (getD row i 0)) (λ j. eqb (getD row (suc i + j) 0) (getD row i 0)) (length row - suc i)
     (λ j h. ap (λ y. eqb y (getD row i 0)) (getD-drop (suc i) row j 0)))
@@ -106,24 +109,29 @@ later-least row i =
 -- ---- the theorem
 
 module _ (row row′ : List ℕ) where
+  pub same-home : SamePins row row′ → (i : ℕ) → i < length row → home row i ≡ home row′ i
+  same-home s i h =
+      home-least row i
+      ∙ least-cong (λ j. joined row j i) (λ j. joined row′ j i) (length row) (λ j l. s .joins j i l h)
+      ∙ ap (λ n. least (λ j. joined row′ j i) n) (s .count)
+      ∙ sym (home-least row′ i)
+
+  pub same-later : SamePins row row′ → (i : ℕ) → i < length row → later row i ≡ later row′ i
+  same-later s i h =
+      later-least row i
+      ∙ ap (λ k. ltb k (length row - suc i))
+          (least-cong (λ j. joined row (suc i + j) i) (λ j. joined row′ (suc i + j) i) (length row - suc i)
+            (λ j l. s .joins (suc i + j) i (omega arith) h))
+      ∙ ap (λ n. ltb (least (λ j. joined row′ (suc i + j) i) (n - suc i)) (n - suc i)) (s .count)
+      ∙ sym (later-least row′ i)
+
   same-node : SamePins row row′ → (i : ℕ) → i < length row → nodeAt row i ≡ nodeAt row′ i
   unfolding nodeAt
-  same-node s i h = ap₂ (λ a b. node (kindOf (eqb a i) b) a) same-home same-later
-    where
-      same-home : home row i ≡ home row′ i
-      same-home =
-          home-least row i
-          ∙ least-cong (λ j. joined row j i) (λ j. joined row′ j i) (length row) (λ j l. s .joins j i l h)
-          ∙ ap (λ n. least (λ j. joined row′ j i) n) (s .count)
-          ∙ sym (home-least row′ i)
+  same-node s i h = ap₂ (λ a b. node (kindOf (eqb a i) b) a) (same-home s i h) (same-later s i h)
 
-      same-later : later row i ≡ later row′ i
-      same-later =
-          later-least row i
-          ∙ ap (λ k. ltb k (length row - suc i))
-          (least-cong (λ j. joined row (suc i + j) i) (λ j. joined row′ (suc i + j) i) (length row - suc i) (λ j l. s .joins (suc i + j) i (omega arith) h))
-          ∙ ap (λ n. ltb (least (λ j. joined row′ (suc i + j) i) (n - suc i)) (n - suc i)) (s .count)
-          ∙ sym (later-least row′ i)
+  same-lone : SamePins row row′ → (i : ℕ) → i < length row → lone row i ≡ lone row′ i
+  unfolding lone
+  same-lone s i h = ap₂ (λ a b. eqb a i && not b) (same-home s i h) (same-later s i h)
 
   pub same-nodes : SamePins row row′ → nodes row ≡ nodes row′
   unfolding nodes
@@ -155,3 +163,16 @@ module _ (row row′ : List ℕ) where
   -- two rows join the same pins exactly when the street rules see the same nodes
   pub pins-nodes : SamePins row row′ ↔ (nodes row ≡ nodes row′)
   pins-nodes = (same-nodes, nodes-same)
+
+  -- rows that join the same pins get the same answer from the router, and the same bytes
+  pub same-routing : SamePins row row′ → (ku kl : ℕ) (work out : List ℕ) → routing row ku kl work out ≡ routing row′ ku kl work out
+  unfolding routing firstLone
+  same-routing s ku kl work out =
+      let lones : firstLone row ≡ firstLone row′ =
+        least-cong (lone row) (lone row′) (length row) (same-lone s) ∙ ap (least (lone row′)) (s .count) in
+      ap₂ (λ n i. settle (refusal n i ku kl (length work) (length out)) (outcome ku kl (nodes row) (first ku kl (nodes row)))) (s .count) lones
+      ∙ ap (λ ns. settle (refusal (length row′) (firstLone row′) ku kl (length work) (length out)) (outcome ku kl ns (first ku kl ns))) (same-nodes s)
+
+  pub same-sheet : SamePins row row′ → (ku kl : ℕ) → firstSheet row ku kl ≡ firstSheet row′ ku kl
+  unfolding firstSheet
+  same-sheet s ku kl = ap (λ ns. sheet ku kl ns (settle (first ku kl ns) [])) (same-nodes s)

@@ -13,7 +13,7 @@ use Rattle.rules.specs.declared.Routing.{Routing}
 use Rattle.rules.specs.declared.Reading.{Reading}
 use Rattle.rules.specs.declared.Drawing.{Drawing}
 use Rattle.rules.specs.Basic.{every, least, keep, orElse, settle, isNone}
-use Rattle.rules.specs.Row.{joined, nodes, lone}
+use Rattle.rules.specs.Row.{joined, Node, nodes, lone}
 use Rattle.rules.specs.Street.{first, failing}
 use Rattle.rules.specs.Sheet.{takes, size, sheet, countOf, rowOf}
 use Rattle.rules.specs.Film.{Rec, records, filmBytes}
@@ -67,25 +67,28 @@ drawSaid (Drawing.Unfit e) = faultSaid e
 unfoldable pub written : List ℕ → List ℕ → List ℕ
 written new buffer = new ++ drop (length new) buffer
 
--- the router's checks 1 to 5
-unfoldable pub refusal : (row : List ℕ) (ku kl work sheet : ℕ) → Option Routing
-refusal row ku kl work sheet =
-    let n = length row in
-    let i = least (lone row) n in
+-- the first node whose label stands at no other, from 0; the number of nodes where there is none
+unfoldable pub firstLone : List ℕ → ℕ
+firstLone row = least (lone row) (length row)
+
+-- the router's checks 1 to 5, of a row of n nodes whose first lone node is i, and buffers of so many bytes
+unfoldable pub refusal : (n i ku kl work sheet : ℕ) → Option Routing
+refusal n i ku kl work sheet =
     orElse (keep (wrongCount n) Routing.RowLength)
     (orElse (keep (not (takes ku kl)) Routing.Tracks)
     (orElse (keep (ltb i n) (Routing.Lone (suc i)))
     (orElse (keep (ltb work (90 * n)) Routing.WorkShort) (keep (ltb sheet (size n)) Routing.SheetShort))))
 
--- 6, or accepted
-unfoldable pub outcome : (row : List ℕ) (ku kl : ℕ) → Option (List ℕ) → Routing
-outcome row ku kl none = Routing.Stuck (suc (failing ku kl (nodes row)))
-outcome row ku kl (some ps) = Routing.Sheet (length row)
+-- accepted, or 6
+unfoldable pub outcome : (ku kl : ℕ) → List Node → Option (List ℕ) → Routing
+outcome ku kl ns (some ps) = Routing.Sheet (length ns)
+outcome ku kl ns none = Routing.Stuck (suc (failing ku kl ns))
 
--- the router's answer; of its buffers only the lengths matter
+-- the router's answer
 unfoldable pub routing : (row : List ℕ) (ku kl : ℕ) (work sheet : List ℕ) → Routing
 routing row ku kl work sheet =
-    let late = outcome row ku kl (first ku kl (nodes row)) in settle (refusal row ku kl (length work) (length sheet)) late
+    let late = outcome ku kl (nodes row) (first ku kl (nodes row)) in
+    settle (refusal (length row) (firstLone row) ku kl (length work) (length sheet)) late
 
 -- the sheet of a row's first placing
 unfoldable pub firstSheet : (row : List ℕ) (ku kl : ℕ) → List ℕ
