@@ -1,0 +1,5 @@
+pub mod Lists
+pub mod Least
+pub mod Fits
+pub mod Runs
+pub mod Search
