@@ -120,8 +120,8 @@ module _ (row row′ : List ℕ) where
   same-later s i h =
       later-least row i
       ∙ ap (λ k. ltb k (length row - suc i))
-          (least-cong (λ j. joined row (suc i + j) i) (λ j. joined row′ (suc i + j) i) (length row - suc i)
-            (λ j l. s .joins (suc i + j) i (omega arith) h))
+      (least-cong (λ j. joined row (suc i + j) i) (λ j. joined row′ (suc i + j) i) (length row - suc i)
+      (λ j l. s .joins (suc i + j) i (omega arith) h))
       ∙ ap (λ n. ltb (least (λ j. joined row′ (suc i + j) i) (n - suc i)) (n - suc i)) (s .count)
       ∙ sym (later-least row′ i)
 
@@ -169,7 +169,7 @@ module _ (row row′ : List ℕ) where
   unfolding routing firstLone
   same-routing s ku kl work out =
       let lones : firstLone row ≡ firstLone row′ =
-        least-cong (lone row) (lone row′) (length row) (same-lone s) ∙ ap (least (lone row′)) (s .count) in
+      least-cong (lone row) (lone row′) (length row) (same-lone s) ∙ ap (least (lone row′)) (s .count) in
       ap₂ (λ n i. settle (refusal n i ku kl (length work) (length out)) (outcome ku kl (nodes row) (first ku kl (nodes row)))) (s .count) lones
       ∙ ap (λ ns. settle (refusal (length row′) (firstLone row′) ku kl (length work) (length out)) (outcome ku kl ns (first ku kl ns))) (same-nodes s)
 
