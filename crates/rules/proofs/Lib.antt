@@ -5,4 +5,5 @@ pub mod Runs
 pub mod Search
 pub mod Pins
 pub mod Open
+pub mod Legal
 pub mod Specimens

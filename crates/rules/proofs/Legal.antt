@@ -1,0 +1,130 @@
+-- Entries pass the judgement exactly when they are those of a placing: their kinds and positions meet every rule, from no open net to none.
+use mathlib.Core.Path.{_≡_, refl, sym, ap, ap₂, _∙_}
+use mathlib.Core.Bool.{Bool, true, false, not, _&&_}
+use mathlib.Core.List.{List, [], _∷_, map}
+use mathlib.Core.Option.{Option, none, some}
+use Prim.Native.Nat.{ℕ, zero, suc, _+_, _-_, _≤_, _<_}
+use native.Mathlib.Omega.{arith}
+use lib.ListN.{length, getD}
+use lib.Dec.{T, eqb, leb, eqb→eq}
+use borrow.Author.Tests.{eqb-true, eqb-false, leb-true, leb-false, lt-leb, ne-eqb, eq-eqb}
+use Rattle.rules.specs.declared.Limits.{Limits}
+use Rattle.rules.specs.declared.Limits.the-variants.{Met, Upper, Lower, Sum}
+use Rattle.rules.specs.declared.Fault.{Fault}
+use Rattle.rules.specs.declared.Fault.the-variants.{Kind as NoKind, Position, Street}
+use Rattle.rules.specs.Basic.{put, cut, keep, orElse}
+use Rattle.rules.specs.Row.{before, Kind, B, M, E, Node, node}
+use Rattle.rules.specs.Street.{limits, counted, stands, next, kind, run}
+use Rattle.rules.specs.Sheet.{code, kindIn, Entry, entry, entries}
+use Rattle.rules.specs.Judgement.{broken, faultAt, left, scan, leftOpen}
+use Rattle.rules.proofs.Lists.{length-put, length-cut}
+use Rattle.rules.proofs.Fits.{Fits, met-within, within-met}
+use Rattle.rules.proofs.Open.{onto}
+use Rattle.rules.proofs.Pins.{at-before}
+
+-- entries from b open nets on: each has a kind and a position that fits, and none is open after the last
+pub data Legal (ku kl : ℕ) : ℕ → List Entry → Type 0 where
+  done : Legal ku kl 0 []
+  then : {b f a : ℕ} {es : List Entry} → (f ≡ 3 → ⊥) → Fits ku kl (suc a) (counted (kindIn f) b) → Legal ku kl (left (kindIn f) b) es
+      → Legal ku kl b (entry f a ∷ es)
+
+module _ (ku kl : ℕ) where
+  -- what the tests at one node find
+  clear : (i b f a : ℕ) → faultAt ku kl i b (entry f a) ≡ none → (f ≡ 3 → ⊥) × Fits ku kl (suc a) (counted (kindIn f) b)
+  unfolding faultAt orElse keep broken
+  clear i b f a = go (eqb f 3) (leb (counted (kindIn f) b) a) (limits ku kl (suc a) (counted (kindIn f) b)) refl refl refl
+    where
+      c : ℕ
+      c = counted (kindIn f) b
+
+      go : (k p : Bool) (l : Limits) → eqb f 3 ≡ k → leb c a ≡ p → limits ku kl (suc a) c ≡ l
+          → orElse (keep k (NoKind i)) (orElse (keep p (Position i)) (broken l i)) ≡ none → (f ≡ 3 → ⊥) × Fits ku kl (suc a) c
+      go true p l ek ep el e = let z : _≡_ {A = ℕ} 0 1 = cc in absurd (omega arith)
+      go false true l ek ep el e = let z : _≡_ {A = ℕ} 0 1 = cc in absurd (omega arith)
+      go false false Met ek ep el e = (eqb-false f 3 ek, omega (arith, leb-false c a ep, met-within ku kl (suc a) c el))
+      go false false Upper ek ep el e = let z : _≡_ {A = ℕ} 0 1 = cc in absurd (omega arith)
+      go false false Lower ek ep el e = let z : _≡_ {A = ℕ} 0 1 = cc in absurd (omega arith)
+      go false false Sum ek ep el e = let z : _≡_ {A = ℕ} 0 1 = cc in absurd (omega arith)
+
+  unclear : (i b f a : ℕ) → (f ≡ 3 → ⊥) → Fits ku kl (suc a) (counted (kindIn f) b) → faultAt ku kl i b (entry f a) ≡ none
+  unfolding faultAt orElse keep broken
+  unclear i b f a n h =
+      rw (ne-eqb f 3 n, lt-leb (counted (kindIn f) b) a (h .high), within-met ku kl (suc a) (counted (kindIn f) b) (h .upper) (h .lower) (h .sum))
+
+  pub scan-legal : (i b : ℕ) (es : List Entry) → scan ku kl i b es ≡ none → leftOpen b es ≡ 0 → Legal ku kl b es
+  unfolding scan leftOpen orElse
+  scan-legal i b [] e o = rw o done
+  scan-legal i b (entry f a ∷ es) e o = go (faultAt ku kl i b (entry f a)) refl e (λ r. scan-legal (suc i) (left (kindIn f) b) es r o)
+    where
+      go : (x : Option Fault) → faultAt ku kl i b (entry f a) ≡ x → orElse x (scan ku kl (suc i) (left (kindIn f) b) es) ≡ none
+          → (scan ku kl (suc i) (left (kindIn f) b) es ≡ none → Legal ku kl (left (kindIn f) b) es) → Legal ku kl b (entry f a ∷ es)
+      go none ex e ih = let h = clear i b f a ex in then (h .0) (h .1) (ih e)
+      go (some x) ex e ih = let z : _≡_ {A = ℕ} 0 1 = cc in absurd (omega arith)
+
+  pub legal-scan : (i : ℕ) {b : ℕ} {es : List Entry} → Legal ku kl b es → scan ku kl i b es ≡ none
+  unfolding scan orElse
+  legal-scan i done = refl
+  legal-scan i (then {b} {f} {a} n h l) = rw (unclear i b f a n h) (legal-scan (suc i) l)
+
+  pub legal-open : {b : ℕ} {es : List Entry} → Legal ku kl b es → leftOpen b es ≡ 0
+  unfolding leftOpen
+  legal-open done = refl
+  legal-open (then n h l) = legal-open l
+
+pub kindIn-code : (k : Kind) → kindIn (code k) ≡ k
+unfolding kindIn code
+kindIn-code B = refl
+kindIn-code M = refl
+kindIn-code E = refl
+
+pub code-lt : (k : Kind) → code k < 3
+unfolding code
+code-lt B = omega arith
+code-lt M = omega arith
+code-lt E = omega arith
+
+pub code-kindIn : (f : ℕ) → f < 3 → code (kindIn f) ≡ f
+unfolding kindIn code
+code-kindIn zero h = refl
+code-kindIn (suc zero) h = refl
+code-kindIn (suc (suc zero)) h = refl
+code-kindIn (suc (suc (suc f))) h = absurd (omega arith)
+
+-- the count after a node is that of the order after it
+length-next : (n : Node) (o : List ℕ) (p : ℕ) → 1 ≤ p → p ≤ counted (kind n) (length o) → length (next n o p) ≡ left (kind n) (length o)
+unfolding next kind left counted
+length-next (node B x) o p l h = length-put (p - 1) x o
+length-next (node M x) o p l h = refl
+length-next (node E x) o p l h = omega (arith, length-cut (p - 1) o (omega arith))
+
+module _ (ku kl : ℕ) where
+  -- the entries of a placing pass
+  pub placing-legal : (ns : List Node) (o ps : List ℕ) → run ku kl ns o ps ≡ some [] → Legal ku kl (length o) (entries ns ps)
+  unfolding run entries
+  placing-legal [] o [] e = let z : o ≡ [] = cc in rw z done
+  placing-legal [] o (p ∷ ps) e = let z : _≡_ {A = ℕ} 0 1 = cc in absurd (omega arith)
+  placing-legal (n ∷ ns) o [] e = let z : _≡_ {A = ℕ} 0 1 = cc in absurd (omega arith)
+  placing-legal (n ∷ ns) o (p ∷ ps) e =
+      let a = onto ku kl n ns o p ps [] e in
+      let k : kindIn (code (kind n)) ≡ kind n = kindIn-code (kind n) in
+      let p≡ : suc (p - 1) ≡ p = omega (arith, a .fitted .low) in
+      then (λ q. omega (arith, code-lt (kind n)))
+        (rw (k, p≡) (a .fitted))
+        (rw (k, ← length-next n o p (a .fitted .low) (a .fitted .high)) (placing-legal ns (next n o p) ps (a .rest)))
+
+-- each B of the nodes from i on has its own number for a net
+pub data Own : ℕ → List Node → Type 0 where
+  nil : {i : ℕ} → Own i []
+  cons : {i x : ℕ} {k : Kind} {ns : List Node} → (k ≡ B → x ≡ i) → Own (suc i) ns → Own i (node k x ∷ ns)
+
+module _ (ku kl : ℕ) where
+  stood-at : (x p : ℕ) (o : List ℕ) → T (eqb p (suc (before x o))) → p ≤ length o → x ≡ getD o (p - 1) 0
+  stood-at x p o t h =
+      let e : p ≡ suc (before x o) = eqb→eq p (suc (before x o)) t in
+      let k : p - 1 ≡ before x o = omega arith in
+      rw k (sym (at-before x o (omega arith)))
+
+  -- nodes with the same kinds and positions are the same
+  pub same-entries : {i : ℕ} {ns ms : List Node} → Own i ns → Own i ms → (o ps v w : List ℕ)
+      → run ku kl ns o ps ≡ some v → run ku kl ms o ps ≡ some w → map kind ns ≡ map kind ms → ns ≡ ms
+  same-entries a b o ps v w e e′ k = ?
