@@ -1,16 +1,16 @@
 -- A field of up to 16 bits is cut out of, or patched into, the 24 bits from the byte that holds its first bit.
 use mathlib.Core.Path.{_≡_, refl, sym, ap, ap₂, _∙_}
 use Prim.Native.Nat.{ℕ, zero, suc, _+_, _-_, _*_, _/_, _%_, _^_, _≤_, _<_}
-use native.Mathlib.Nat.{mod-lt, add-mul, mul-assoc, add-assoc, add-zero, div-add-mod'}
+use native.Mathlib.Nat.{mod-lt, add-assoc, add-zero, div-add-mod'}
 use native.Mathlib.Numerals.{add-one}
 use native.Mathlib.Omega.{arith}
 use mathlib.Core.List.{List, [], _∷_, _++_, append-assoc, append-nil}
-use lib.ListN.{length, getD, take, drop, set, length-append, length-take, length-drop, take-append-drop}
-use lib.Seq.{take-at, drop-at, take-append-le, drop-append-le, take-append-add, drop-append-add, length-take-le, take-append-seam, getD-drop, drop-drop, take-all, sets, sets-eq, length-sets, paste, length-paste}
+use lib.ListN.{length, getD, take, drop, set, length-append, length-drop, take-append-drop}
+use lib.Seq.{take-at, take-append-le, drop-append-le, take-append-add, drop-append-add, length-take-le, take-append-seam, getD-drop, drop-drop, take-all, sets, sets-eq, paste, length-paste}
 use lib.Arith.{digits-lt}
 use lib.Bits.{bitAnd, and-mask}
 use lib.Pow.{pow-pos, pow-add, shr-lt}
-use Rattle.rules.specs.Bits.{bits, digits, val, pack, field, Below}
+use Rattle.rules.specs.Bits.{bits, digits, val, pack, field}
 use Rattle.rules.proofs.Fields.{length-digits, length-pack, val-digits-mod, digits-low, digits-join, digits-split, take-digits, drop-digits, pack-append, take-pack}
 use Rattle.bits.specs.Access.{Inside}
 use Rattle.bits.specs.Window.{Window, patched, bytesOf}
@@ -115,8 +115,11 @@ module _ (x after width value : ℕ) (fits : value < 2 ^ width) where
 
 -- ---- bytes with three zeros after them: the window lies in them
 
+abbrev zeros : List ℕ
+zeros = 0 ∷ 0 ∷ 0 ∷ []
+
 abbrev padded : List ℕ → List ℕ
-padded s = s ++ 0 ∷ 0 ∷ 0 ∷ []
+padded s = s ++ zeros
 
 first-three : (t : List ℕ) → take 3 (padded t) ≡ getD t 0 0 ∷ getD t 1 0 ∷ getD t 2 0 ∷ []
 first-three [] = refl
@@ -126,9 +129,17 @@ first-three (x ∷ y ∷ z ∷ t) = refl
 
 three-at : (s : List ℕ) (q : ℕ) → q ≤ length s → take 3 (drop q (padded s)) ≡ getD s q 0 ∷ getD s (q + 1) 0 ∷ getD s (q + 2) 0 ∷ []
 three-at s q h =
-    ap (take 3) (drop-append-le q s (0 ∷ 0 ∷ 0 ∷ []) h)
+    ap (take 3) (drop-append-le q s zeros h)
     ∙ first-three (drop q s)
     ∙ rw (getD-drop q s 0 0, getD-drop q s 1 0, getD-drop q s 2 0, add-zero q)
+
+around : (l : List ℕ) (q : ℕ) → l ≡ take q l ++ take 3 (drop q l) ++ drop (q + 3) l
+around l q =
+    sym
+    (append-assoc (take q l) (take 3 (drop q l)) (drop (q + 3) l)
+    ∙ ap (λ (r : List ℕ). take q l ++ (take 3 (drop q l) ++ r)) (sym (drop-drop 3 q l))
+    ∙ ap (λ (r : List ℕ). take q l ++ r) (take-append-drop 3 (drop q l))
+    ∙ take-append-drop q l)
 
 abbrev before : List ℕ → ℕ → List ℕ
 before s q = bits (take q (padded s))
@@ -145,66 +156,71 @@ length-before : (s : List ℕ) (q : ℕ) → q ≤ length s → length (before s
 length-before s q h =
     length-pack 8 (take q (padded s)) ∙ ap (λ (n : ℕ). 8 * n) (length-take-le q (padded s) (simp length-append (omega arith)))
 
-bits-padded : (s : List ℕ) (q x : ℕ) → Window s q x → q ≤ length s → bits (padded s) ≡ before s q ++ (digits 24 x ++ behind s q)
+bits-padded : (s : List ℕ) (q x : ℕ) → Window s q x → q ≤ length s → bits s ++ bits zeros ≡ before s q ++ (digits 24 x ++ behind s q)
 bits-padded s q x v h =
-    let whole : padded s ≡ take q (padded s) ++ take 3 (drop q (padded s)) ++ drop (q + 3) (padded s) =
-    sym
-    (append-assoc (take q (padded s)) (take 3 (drop q (padded s))) (drop (q + 3) (padded s))
-    ∙ ap (λ (l : List ℕ). take q (padded s) ++ l)
-    (ap (λ (l : List ℕ). take 3 (drop q (padded s)) ++ l) (sym (drop-drop 3 q (padded s))) ∙ take-append-drop 3 (drop q (padded s)))
-    ∙ take-append-drop q (padded s)) in
-    ap bits whole
+    sym (pack-append 8 s zeros)
+    ∙ ap bits (around (padded s) q)
     ∙ bits-around s q (take 3 (drop q (padded s)))
+    ∙ ap (λ (l : List ℕ). before s q ++ (bits l ++ behind s q)) (three-at s q h)
     ∙ ap (λ (l : List ℕ). before s q ++ (l ++ behind s q))
-    (ap bits (three-at s q h)
-    ∙ bits-three (getD s q 0) (getD s (q + 1) 0) (getD s (q + 2) 0) (v .second) (v .third)
-    ∙ ap (digits 24) (sym (v .is)))
+    (bits-three (getD s q 0) (getD s (q + 1) 0) (getD s (q + 2) 0) (v .second) (v .third) ∙ ap (digits 24) (sym (v .is)))
 
--- ---- a field of the bytes and the window that it lies in
+-- ---- a field of the bytes, and the window that it lies in
 
 module _ (s : List ℕ) (at width after x : ℕ) (inside : Inside s at width) (seen : Window s (at / 8) x) (fill : at % 8 + (width + after) ≡ 24) where
   here : length (before s (at / 8)) + at % 8 ≡ at
   here = omega (arith, length-before s (at / 8) (omega arith))
 
+  window-bits : bits s ++ bits zeros ≡ before s (at / 8) ++ (digits 24 x ++ behind s (at / 8))
+  window-bits = bits-padded s (at / 8) x seen (omega arith)
+
+  bits-fit : at + width ≤ length (bits s)
+  bits-fit = omega (arith, length-pack 8 s)
+
+  window-fit : at % 8 + width ≤ length (digits 24 x)
+  window-fit = omega (arith, length-digits 24 x)
+
+  field-bits : take width (drop at (bits s)) ≡ digits width (x / 2 ^ after)
+  field-bits =
+      let p = before s (at / 8) in
+      let r = digits 24 x ++ behind s (at / 8) in
+      sym (part-left (bits s) (bits zeros) at width bits-fit)
+      ∙ ap (λ (l : List ℕ). take width (drop at l)) window-bits
+      ∙ ap (λ (n : ℕ). take width (drop n (p ++ r))) (sym here)
+      ∙ ap (take width) (drop-append-add p r (at % 8))
+      ∙ part-left (digits 24 x) (behind s (at / 8)) (at % 8) width window-fit
+      ∙ ap (λ (n : ℕ). take width (drop (at % 8) (digits n x))) (sym fill)
+      ∙ ap (take width) (drop-digits (at % 8) (width + after) x)
+      ∙ take-digits width after x
+
   -- the field, read from the window
   pub cut-out : field s at width ≡ x / 2 ^ after % 2 ^ width
-  cut-out =
-      let q : ℕ = at / 8 in
-      let o : ℕ = at % 8 in
-      let found : take width (drop at (bits s)) ≡ digits width (x / 2 ^ after) =
-      sym (part-left (bits s) (bits (0 ∷ 0 ∷ 0 ∷ [])) at width (omega (arith, length-pack 8 s)))
-      ∙ ap (λ (l : List ℕ). take width (drop at l)) (sym (pack-append 8 s (0 ∷ 0 ∷ 0 ∷ [])) ∙ bits-padded s q x seen (omega arith))
-      ∙ ap (λ (n : ℕ). take width (drop n (before s q ++ (digits 24 x ++ behind s q)))) (sym here)
-      ∙ ap (take width) (drop-append-add (before s q) (digits 24 x ++ behind s q) o)
-      ∙ part-left (digits 24 x) (behind s q) o width (omega (arith, length-digits 24 x))
-      ∙ ap (λ (n : ℕ). take width (drop o (digits n x))) (sym fill)
-      ∙ ap (take width) (drop-digits o (width + after) x)
-      ∙ take-digits width after x in
-      ap val found ∙ val-digits-mod width (x / 2 ^ after)
+  cut-out = ap val field-bits ∙ val-digits-mod width (x / 2 ^ after)
 
-  -- the bytes of the window stored, with the field's number in it
-  pub patched-in : (value : ℕ) → value < 2 ^ width
-      → bits (sets s (at / 8) (bytesOf (patched x after width value))) ≡ paste (bits s) at (digits width value) width
-  patched-in value h =
-      let q : ℕ = at / 8 in
-      let o : ℕ = at % 8 in
-      let y : ℕ = patched x after width value in
-      let d : List ℕ = digits width value in
-      let zeros : List ℕ = 0 ∷ 0 ∷ 0 ∷ [] in
-      let wide : bits (sets (padded s) q (bytesOf y)) ≡ paste (bits s) at d width ++ bits zeros =
-      ap bits (sets-eq (bytesOf y) (padded s) q (simp length-append (omega arith)))
-      ∙ bits-around s q (bytesOf y)
-      ∙ ap (λ (l : List ℕ). before s q ++ (l ++ behind s q))
-      (bits-bytesOf y ∙ digits-patched x after width value h o fill)
-      ∙ ap (λ (l : List ℕ). before s q ++ l)
-      (sym (paste-left (digits 24 x) (behind s q) o d width (omega (arith, length-digits 24 x))))
-      ∙ sym (paste-right (before s q) (digits 24 x ++ behind s q) o d width)
-      ∙ ap (λ (n : ℕ). paste (before s q ++ (digits 24 x ++ behind s q)) n d width) here
-      ∙ ap (λ (l : List ℕ). paste l at d width) (sym (bits-padded s q x seen (omega arith)) ∙ pack-append 8 s zeros)
-      ∙ paste-left (bits s) (bits zeros) at d width (omega (arith, length-pack 8 s)) in
-      ap (λ (l : List ℕ). bits (sets l q (bytesOf y))) (sym (take-append-seam s zeros))
-      ∙ ap bits (sym (take-sets (length s) (padded s) q (bytesOf y)))
-      ∙ sym (take-pack 8 (length s) (sets (padded s) q (bytesOf y)))
-      ∙ ap (take (8 * length s)) wide
-      ∙ take-at (paste (bits s) at d width) (bits zeros) (8 * length s)
-      (length-paste (bits s) at d width (omega (arith, length-pack 8 s)) (omega (arith, length-digits width value)) ∙ length-pack 8 s)
+  module _ (value : ℕ) (h : value < 2 ^ width) where
+    stored-bits : bits (sets (padded s) (at / 8) (bytesOf (patched x after width value))) ≡ paste (bits s) at (digits width value) width ++ bits zeros
+    stored-bits =
+        let y = patched x after width value in
+        let d = digits width value in
+        let p = before s (at / 8) in
+        let r = behind s (at / 8) in
+        ap bits (sets-eq (bytesOf y) (padded s) (at / 8) (simp length-append (omega arith)))
+        ∙ bits-around s (at / 8) (bytesOf y)
+        ∙ ap (λ (l : List ℕ). p ++ (l ++ r)) (bits-bytesOf y ∙ digits-patched x after width value h (at % 8) fill)
+        ∙ ap (λ (l : List ℕ). p ++ l) (sym (paste-left (digits 24 x) r (at % 8) d width window-fit))
+        ∙ sym (paste-right p (digits 24 x ++ r) (at % 8) d width)
+        ∙ ap (λ (n : ℕ). paste (p ++ (digits 24 x ++ r)) n d width) here
+        ∙ ap (λ (l : List ℕ). paste l at d width) (sym window-bits)
+        ∙ paste-left (bits s) (bits zeros) at d width bits-fit
+
+    -- the field, written by storing the window's bytes with its number patched in
+    pub patched-in : bits (sets s (at / 8) (bytesOf (patched x after width value))) ≡ paste (bits s) at (digits width value) width
+    patched-in =
+        let y = patched x after width value in
+        let d = digits width value in
+        ap (λ (l : List ℕ). bits (sets l (at / 8) (bytesOf y))) (sym (take-append-seam s zeros))
+        ∙ ap bits (sym (take-sets (length s) (padded s) (at / 8) (bytesOf y)))
+        ∙ sym (take-pack 8 (length s) (sets (padded s) (at / 8) (bytesOf y)))
+        ∙ ap (take (8 * length s)) stored-bits
+        ∙ take-at (paste (bits s) at d width) (bits zeros) (8 * length s)
+        (length-paste (bits s) at d width bits-fit (omega (arith, length-digits width value)) ∙ length-pack 8 s)

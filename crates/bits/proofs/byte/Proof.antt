@@ -5,22 +5,16 @@ use lib.ListN.{List·getD-eq-default}
 use borrow.Author.Needs.{needs}
 use Rattle.bits.proofs.byte.Statement.{statement}
 use Rattle.bits.proofs.byte.Tie as tie
-use Rattle.bits.proofs.byte.Reads as reads
-use Rattle.bits.proofs.byte.Lts as lts
 
--- src/lib.rt:66:22
 shared-slice-read-result : tie.Need-shared-slice-read-result
 shared-slice-read-result c = search needs
 
--- src/lib.rt:66:22
 cast-result : tie.Need-cast-result
 cast-result c = omega (arith, c .shared-slice-known .given (c .before .before .args .i))
 
--- src/lib.rt:63:1
 returns : tie.Need-returns
 returns c = (refl, omega (arith, c .shared-slice-known .given (c .before .before .args .i)))
 
--- src/lib.rt:63:1
 returns-2 : tie.Need-returns-2
 returns-2 c = (sym (List·getD-eq-default (c .before .args .s .now) 0 (c .if1 .left)), omega arith)
 

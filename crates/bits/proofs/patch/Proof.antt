@@ -15,52 +15,47 @@ sum-fits : (c : lts.After-power2 (power-reads.Asked, power-reads.Learnt) reads.P
     → c .before .before .args .x / 2 ^ (c .before .before .args .width + c .before .before .args .after) * c .power2 .result
     + (c .before .before .args .value * c .before .power .result + bitAnd (c .before .before .args .x) (c .before .power .result - 1)) < 2 ^ 24
 sum-fits c =
-    let g = c .before .before .args in
-    patch-fits (g .x) (g .after) (g .width) (g .value) (c .before .before .pre .2) (c .before .power .result) (c .power2 .result) (c .before .power .ensures) (c .power2 .ensures) (c .before .before .pre .0) (c .before .before .pre .1)
+    let start = c .before .before in
+    let g = start .args in
+    let unit = c .before .power in
+    patch-fits (g .x) (g .after) (g .width) (g .value) (start .pre .2) (unit .result) (c .power2 .result) (unit .ensures) (c .power2 .ensures) (start .pre .0) (start .pre .1)
 
--- src/lib.rt:41:15
 add-top : tie.Need-add-top
 add-top c = search needs
 
--- src/lib.rt:42:9
 power-requires : tie.Need-power-requires
 power-requires c κs = search needs
 
--- src/lib.rt:43:11
 cast-result : tie.Need-cast-result
 cast-result c = search needs
 
--- src/lib.rt:43:6
 shr-result : tie.Need-shr-result
 shr-result c = search needs
 
--- src/lib.rt:43:18
 power-requires-2 : tie.Need-power-requires-2
 power-requires-2 c κs = search needs
 
--- src/lib.rt:43:5
 mul-result : tie.Need-mul-result
 mul-result c = omega (arith, sum-fits c)
 
--- src/lib.rt:43:32
 mul-result-2 : tie.Need-mul-result-2
 mul-result-2 c = omega (arith, sum-fits c)
 
--- src/lib.rt:43:60
 sub-result : tie.Need-sub-result
 sub-result c = omega (arith, pow-pos (c .before .before .args .after))
 
--- src/lib.rt:43:32
 add-result : tie.Need-add-result
 add-result c = omega (arith, sum-fits c)
 
--- src/lib.rt:43:5
 add-result-2 : tie.Need-add-result-2
 add-result-2 c = omega (arith, sum-fits c)
 
--- src/lib.rt:37:1
 returns : tie.Need-returns
-returns c = (patch-is (c .before .before .args .x) (c .before .before .args .after) (c .before .before .args .width) (c .before .before .args .value) (c .before .before .pre .2) (c .before .power .result) (c .power2 .result) (c .before .power .ensures) (c .power2 .ensures), sum-fits c)
+returns c =
+    let start = c .before .before in
+    let g = start .args in
+    let unit = c .before .power in
+    (patch-is (g .x) (g .after) (g .width) (g .value) (start .pre .2) (unit .result) (c .power2 .result) (unit .ensures) (c .power2 .ensures), sum-fits c)
 
 pub patch-spec : {M : Type 1} → statement M
 patch-spec =

@@ -7,18 +7,13 @@ use lib.Pow.{shl-exact}
 use borrow.Author.Needs.{needs}
 use Rattle.bits.proofs.power.Statement.{statement}
 use Rattle.bits.proofs.power.Tie as tie
-use Rattle.bits.proofs.power.Reads as reads
-use Rattle.bits.proofs.power.Lts as lts
 
--- src/lib.rt:51:13
 cast-result : tie.Need-cast-result
 cast-result c = search needs
 
--- src/lib.rt:51:5
 shl-result : tie.Need-shl-result
 shl-result c = search needs
 
--- src/lib.rt:47:1
 returns : tie.Need-returns
 returns c = shl-exact 1 (c .args .n) 32 (omega arith) (omega arith) ∙ one-mul (2 ^ c .args .n)
 

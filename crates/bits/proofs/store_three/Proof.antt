@@ -4,49 +4,36 @@ use Rattle.bits.proofs.Window.{sets-three}
 use borrow.Author.Needs.{needs}
 use Rattle.bits.proofs.store_three.Statement.{statement}
 use Rattle.bits.proofs.store_three.Tie as tie
-use Rattle.bits.proofs.store_three.Reads as reads
-use Rattle.bits.proofs.store_three.Lts as lts
-use Rattle.bits.proofs.store.Reads as store-reads
 
--- src/lib.rt:75:19
 cast-store : tie.Need-cast-store
 cast-store c = search needs
 
--- src/lib.rt:75:5
 store-requires : tie.Need-store-requires
 store-requires c κs = search needs
 
--- src/lib.rt:76:16
 add-store : tie.Need-add-store
 add-store c = search needs
 
--- src/lib.rt:76:23
 cast-store-2 : tie.Need-cast-store-2
 cast-store-2 c = search needs
 
--- src/lib.rt:76:5
 store-requires-2 : tie.Need-store-requires-2
 store-requires-2 c κs = search needs
 
--- src/lib.rt:77:16
 add-store-2 : tie.Need-add-store-2
 add-store-2 c = search needs
 
--- src/lib.rt:77:23
 cast-store-3 : tie.Need-cast-store-3
 cast-store-3 c = search needs
 
--- src/lib.rt:77:5
 store-requires-3 : tie.Need-store-requires-3
 store-requires-3 c κs = search needs
 
--- src/lib.rt:70:1
 same-length : tie.Need-same-length
 same-length c = search needs
 
--- src/lib.rt:70:1
 returns : tie.Need-returns
-returns c = 
+returns c =
     let g = c .before .before .before .before .before .before .before .before .before .before .before .before .before .args in
     sets-three (g .buf .now) (g .at / 8) (g .x / 65536) (g .x / 256 % 256) (g .x % 256) (c .before .before .before .before .before .before .before .before .before .before .store .ensures) (c .before .before .before .before .before .before .store2 .ensures) (c .before .before .store3 .ensures)
 
