@@ -1,7 +1,7 @@
 -- A field of up to 16 bits is cut out of, or patched into, the 24 bits from the byte that holds its first bit.
 use mathlib.Core.Path.{_≡_, refl, sym, ap, ap₂, _∙_}
 use Prim.Native.Nat.{ℕ, zero, suc, _+_, _-_, _*_, _/_, _%_, _^_, _≤_, _<_}
-use native.Mathlib.Nat.{mod-lt, add-assoc, add-zero, div-add-mod'}
+use native.Mathlib.Nat.{mod-lt, add-assoc, add-zero}
 use native.Mathlib.Numerals.{add-one}
 use native.Mathlib.Omega.{arith}
 use mathlib.Core.List.{List, [], _∷_, _++_, append-assoc, append-nil}
@@ -11,7 +11,7 @@ use lib.Arith.{digits-lt}
 use lib.Bits.{bitAnd, and-mask}
 use lib.Pow.{pow-pos, pow-add, shr-lt}
 use Rattle.rules.specs.Bits.{bits, digits, val, pack, field}
-use Rattle.rules.proofs.Fields.{length-digits, length-pack, val-digits-mod, digits-low, digits-join, digits-split, take-digits, drop-digits, pack-append, take-pack}
+use Rattle.rules.proofs.Fields.{length-digits, length-pack, val-digits-mod, digits-rest, digits-join, digits-split, take-digits, drop-digits, pack-append, take-pack}
 use Rattle.bits.specs.Access.{Inside}
 use Rattle.bits.specs.Window.{Window, patched, bytesOf}
 
@@ -60,13 +60,10 @@ masked-lt x n e = rw (masked x n e) (mod-lt x (pow-pos n))
 
 -- ---- three bytes are 24 bits
 
-digits-byte : (x : ℕ) → digits 8 (x % 256) ≡ digits 8 x
-digits-byte x = sym (digits-low 8 (x / 256) (x % 256)) ∙ ap (digits 8) (div-add-mod' x 256)
-
 bits-bytesOf : (x : ℕ) → bits (bytesOf x) ≡ digits 24 x
 unfolding pack
 bits-bytesOf x =
-    rw (digits-byte (x / 256), digits-byte x, append-nil (digits 8 x))
+    rw (digits-rest 8 (x / 256), digits-rest 8 x, append-nil (digits 8 x))
     (sym (digits-split 8 16 x ∙ ap (λ (l : List ℕ). digits 8 (x / 65536) ++ l) (digits-split 8 8 x)))
 
 bits-three : (a b c : ℕ) → b < 256 → c < 256 → bits (a ∷ b ∷ c ∷ []) ≡ digits 24 (a * 65536 + (b * 256 + c))
@@ -95,23 +92,26 @@ module _ (x after width value : ℕ) (fits : value < 2 ^ width) where
       → x / 2 ^ (width + after) * full + (value * unit + bitAnd x (unit - 1)) < 2 ^ 24
   patch-fits unit full e f h n = rw (patch-is unit full e f) (patch-lt (24 - (width + after)) (omega arith) h)
 
-  digits-patched : (o : ℕ) → o + (width + after) ≡ 24 → digits 24 (patched x after width value) ≡ paste (digits 24 x) o (digits width value) width
-  digits-patched o e =
-      let first : take o (digits 24 x) ≡ digits o (x / 2 ^ (width + after)) =
-      ap (λ (n : ℕ). take o (digits n x)) (sym e) ∙ take-digits o (width + after) x in
-      let mid : take width (digits width value) ≡ digits width value =
-      take-all width (digits width value) (omega (arith, length-digits width value)) in
-      let last : drop (o + width) (digits 24 x) ≡ digits after (x % 2 ^ after) =
-      ap (λ (n : ℕ). drop (o + width) (digits n x)) (sym e ∙ sym (add-assoc o width after))
-      ∙ drop-digits (o + width) after x
-      ∙ ap (digits after) (sym (div-add-mod' x (2 ^ after)))
-      ∙ digits-low after (x / 2 ^ after) (x % 2 ^ after) in
-      ap (λ (n : ℕ). digits n (patched x after width value)) (sym e)
-      ∙ digits-join o (width + after) (x / 2 ^ (width + after)) patch-low
-      ∙ ap (λ (l : List ℕ). digits o (x / 2 ^ (width + after)) ++ l) (digits-join width after value (mod-lt x (pow-pos after)))
-      ∙ sym (append-assoc (digits o (x / 2 ^ (width + after))) (digits width value) (digits after (x % 2 ^ after)))
-      ∙ sym (ap₂ (λ (a b : List ℕ). a ++ take width (digits width value) ++ b) first last
-      ∙ ap (λ (l : List ℕ). digits o (x / 2 ^ (width + after)) ++ l ++ digits after (x % 2 ^ after)) mid)
+  module _ (o : ℕ) (fill : o + (width + after) ≡ 24) where
+    above : take o (digits 24 x) ≡ digits o (x / 2 ^ (width + after))
+    above = ap (λ (n : ℕ). take o (digits n x)) (sym fill) ∙ take-digits o (width + after) x
+
+    under : drop (o + width) (digits 24 x) ≡ digits after (x % 2 ^ after)
+    under =
+        ap (λ (n : ℕ). drop (o + width) (digits n x)) (sym fill ∙ sym (add-assoc o width after))
+        ∙ drop-digits (o + width) after x
+        ∙ sym (digits-rest after x)
+
+    whole : take width (digits width value) ≡ digits width value
+    whole = take-all width (digits width value) (omega (arith, length-digits width value))
+
+    digits-patched : digits 24 (patched x after width value) ≡ paste (digits 24 x) o (digits width value) width
+    digits-patched =
+        rw (above, under, whole)
+        (ap (λ (n : ℕ). digits n (patched x after width value)) (sym fill)
+        ∙ digits-join o (width + after) (x / 2 ^ (width + after)) patch-low
+        ∙ ap (λ (l : List ℕ). digits o (x / 2 ^ (width + after)) ++ l) (digits-join width after value (mod-lt x (pow-pos after)))
+        ∙ sym (append-assoc (digits o (x / 2 ^ (width + after))) (digits width value) (digits after (x % 2 ^ after))))
 
 -- ---- bytes with three zeros after them: the window lies in them
 

@@ -96,47 +96,52 @@ val-digits-mod (suc w) v =
 pub val-digits : (w : ℕ) {v : ℕ} → v < 2 ^ w → val (digits w v) ≡ v
 val-digits w {v} h = val-digits-mod w v ∙ mod-eq-of-lt h
 
+shift-one : (a k r : ℕ) → a * 2 ^ suc k + r ≡ a * 2 * 2 ^ k + r
+shift-one a k r = ap (λ (x : ℕ). x + r) (ap (λ (x : ℕ). a * x) (pow-succ' 2 k) ∙ sym (mul-assoc a 2 (2 ^ k)))
+
+-- bit k does not change with what stands above it
+bit-low : (k a r : ℕ) → (a * 2 ^ suc k + r) / 2 ^ k % 2 ≡ r / 2 ^ k % 2
+bit-low k a r =
+    ap (λ (x : ℕ). x / 2 ^ k % 2) (shift-one a k r ∙ add-comm (a * 2 * 2 ^ k) r)
+    ∙ ap (λ (x : ℕ). x % 2) (add-mul-div-right r (a * 2) (pow-pos k))
+    ∙ add-mul-mod-self-right (r / 2 ^ k) a 2
+
 -- what stands above the low k bits does not show in them
 pub digits-low : (k a r : ℕ) → digits k (a * 2 ^ k + r) ≡ digits k r
 unfolding digits
 digits-low zero a r = refl
-digits-low (suc k) a r =
-    let e : a * 2 ^ suc k + r ≡ r + a * 2 * 2 ^ k =
-    ap (λ (x : ℕ). a * x + r) (pow-succ' 2 k) ∙ ap (λ (x : ℕ). x + r) (sym (mul-assoc a 2 (2 ^ k))) ∙ add-comm (a * 2 * 2 ^ k) r in
-    let head : (a * 2 ^ suc k + r) / 2 ^ k % 2 ≡ r / 2 ^ k % 2 =
-    ap (λ (x : ℕ). x / 2 ^ k % 2) e
-    ∙ ap (λ (x : ℕ). x % 2) (add-mul-div-right r (a * 2) (pow-pos k))
-    ∙ add-mul-mod-self-right (r / 2 ^ k) a 2 in
-    let tail : digits k (a * 2 ^ suc k + r) ≡ digits k r =
-    ap (digits k) (e ∙ add-comm r (a * 2 * 2 ^ k)) ∙ digits-low k (a * 2) r in
-    ap₂ (λ (x : ℕ) (xs : List ℕ). x ∷ xs) head tail
+digits-low (suc k) a r = λ i. bit-low k a r i ∷ (ap (digits k) (shift-one a k r) ∙ digits-low k (a * 2) r) i
+
+pub digits-rest : (k v : ℕ) → digits k (v % 2 ^ k) ≡ digits k v
+digits-rest k v = sym (digits-low k (v / 2 ^ k) (v % 2 ^ k)) ∙ ap (digits k) (div-add-mod' v (2 ^ k))
 
 pub digits-val : {l : List ℕ} → Below 2 l → digits (length l) (val l) ≡ l
 unfolding digits val
 digits-val nil = refl
 digits-val (cons {x} {xs} h p) =
-    ap₂ (λ (y : ℕ) (ys : List ℕ). y ∷ ys)
-    (ap (λ (y : ℕ). y % 2) (digits-div x (val-lt p)) ∙ mod-eq-of-lt h)
-    (digits-low (length xs) x (val xs) ∙ digits-val p)
+    λ i. (ap (λ (y : ℕ). y % 2) (digits-div x (val-lt p)) ∙ mod-eq-of-lt h) i ∷ (digits-low (length xs) x (val xs) ∙ digits-val p) i
 
+-- the bits above the low k are those of the number above
+high-bit : (j k a : ℕ) {r : ℕ} → r < 2 ^ k → (a * 2 ^ k + r) / 2 ^ (j + k) ≡ a / 2 ^ j
+high-bit j k a {r} h =
+    ap (λ (n : ℕ). (a * 2 ^ k + r) / 2 ^ n) (add-comm j k)
+    ∙ sym (shr-shr (a * 2 ^ k + r) k j)
+    ∙ ap (λ (x : ℕ). x / 2 ^ j) (digits-div a h)
+
+-- a number over one of k bits: its digits, then theirs
 pub digits-join : (j k a : ℕ) {r : ℕ} → r < 2 ^ k → digits (j + k) (a * 2 ^ k + r) ≡ digits j a ++ digits k r
 unfolding digits
 digits-join zero k a {r} h = ap (λ (n : ℕ). digits n (a * 2 ^ k + r)) (zero-add k) ∙ digits-low k a r
 digits-join (suc j) k a {r} h =
     ap (λ (n : ℕ). digits n (a * 2 ^ k + r)) (suc-add j k)
-    ∙ ap₂ (λ (x : ℕ) (xs : List ℕ). x ∷ xs)
-    (ap (λ (x : ℕ). x % 2)
-    (ap (λ (n : ℕ). (a * 2 ^ k + r) / 2 ^ n) (add-comm j k)
-    ∙ sym (shr-shr (a * 2 ^ k + r) k j)
-    ∙ ap (λ (x : ℕ). x / 2 ^ j) (digits-div a h)))
-    (digits-join j k a h)
+    ∙ (λ i. high-bit j k a h i % 2 ∷ digits-join j k a h i)
 
 -- the first j of j + k digits are those of the number without its low k bits
 pub digits-split : (j k v : ℕ) → digits (j + k) v ≡ digits j (v / 2 ^ k) ++ digits k v
 digits-split j k v =
     ap (digits (j + k)) (sym (div-add-mod' v (2 ^ k)))
     ∙ digits-join j k (v / 2 ^ k) (mod-lt v (pow-pos k))
-    ∙ ap (λ (l : List ℕ). digits j (v / 2 ^ k) ++ l) (sym (digits-low k (v / 2 ^ k) (v % 2 ^ k)) ∙ ap (digits k) (div-add-mod' v (2 ^ k)))
+    ∙ ap (λ (l : List ℕ). digits j (v / 2 ^ k) ++ l) (digits-rest k v)
 
 pub take-digits : (j k v : ℕ) → take j (digits (j + k) v) ≡ digits j (v / 2 ^ k)
 take-digits j k v =
@@ -149,21 +154,21 @@ drop-digits j k v =
 pub digits-zero : (w : ℕ) → digits w 0 ≡ replicate w 0
 unfolding digits
 digits-zero zero = refl
-digits-zero (suc w) =
-    ap₂ (λ (x : ℕ) (xs : List ℕ). x ∷ xs) (ap (λ (x : ℕ). x % 2) (zero-div (2 ^ w)) ∙ zero-mod 2) (digits-zero w)
+digits-zero (suc w) = λ i. (ap (λ (x : ℕ). x % 2) (zero-div (2 ^ w)) ∙ zero-mod 2) i ∷ digits-zero w i
 
 pub digits-inj : (w : ℕ) {v v′ : ℕ} → v < 2 ^ w → v′ < 2 ^ w → digits w v ≡ digits w v′ → v ≡ v′
 digits-inj w h h′ e = sym (val-digits w h) ∙ ap val e ∙ val-digits w h′
+
+high-place : (x : ℕ) (a b : List ℕ) → x * 2 ^ length (a ++ b) ≡ x * 2 ^ length a * 2 ^ length b
+high-place x a b =
+    ap (λ (n : ℕ). x * n) (ap (λ (n : ℕ). 2 ^ n) (length-append a b) ∙ pow-add 2 (length a) (length b))
+    ∙ sym (mul-assoc x (2 ^ length a) (2 ^ length b))
 
 pub val-append : (a b : List ℕ) → val (a ++ b) ≡ val a * 2 ^ length b + val b
 unfolding val
 val-append [] b = omega arith
 val-append (x ∷ a) b =
-    let e : x * 2 ^ length (a ++ b) ≡ x * 2 ^ length a * 2 ^ length b =
-    ap (λ (n : ℕ). x * 2 ^ n) (length-append a b)
-    ∙ ap (λ (n : ℕ). x * n) (pow-add 2 (length a) (length b))
-    ∙ sym (mul-assoc x (2 ^ length a) (2 ^ length b)) in
-    omega (arith, e, val-append a b, add-mul (x * 2 ^ length a) (val a) (2 ^ length b))
+    omega (arith, high-place x a b, val-append a b, add-mul (x * 2 ^ length a) (val a) (2 ^ length b))
 
 -- ---- numbers of w bits each
 
