@@ -1,8 +1,10 @@
+pub mod Fields
 pub mod Lists
 pub mod Least
 pub mod Fits
 pub mod Runs
 pub mod Search
+pub mod Choices
 pub mod Pins
 pub mod Open
 pub mod Legal

@@ -1,0 +1,21 @@
+-- `bits::power` meets its contract: nothing is shifted out.
+use mathlib.Core.Path.{_∙_}
+use Prim.Native.Nat.{_^_}
+use native.Mathlib.Nat.{one-mul}
+use native.Mathlib.Omega.{arith}
+use lib.Pow.{shl-exact}
+use borrow.Author.Needs.{needs}
+use Rattle.bits.proofs.power.Statement.{statement}
+use Rattle.bits.proofs.power.Tie as tie
+
+cast-result : tie.Need-cast-result
+cast-result c = search needs
+
+shl-result : tie.Need-shl-result
+shl-result c = search needs
+
+returns : tie.Need-returns
+returns c = shl-exact 1 (c .args .n) 32 (omega arith) (omega arith) ∙ one-mul (2 ^ c .args .n)
+
+pub power-spec : {M : Type 1} → statement M
+power-spec = tie.close (tie.spec cast-result shl-result returns)
