@@ -3,3 +3,4 @@ pub mod Least
 pub mod Fits
 pub mod Runs
 pub mod Search
+pub mod Choices
