@@ -6,13 +6,16 @@ use mathlib.Core.Logic.{_⊎_, inl, inr, ⊎-elim}
 use mathlib.Core.Option.{Option, none, some}
 use Prim.Native.Nat.{ℕ, zero, suc, _+_, _≤_, _<_}
 use lib.ListN.{length, take}
-use lib.Dec.{T}
+use lib.Seq.{take-length}
+use lib.Dec.{T, leb}
+use borrow.Author.Tests.{leb-true, leb-false}
 use native.Mathlib.Nat.{eq-or-lt-of-le}
 use native.Mathlib.Omega.{arith}
 use Rattle.rules.specs.Basic.{least, keep, andThen, orElse, isNone}
 use Rattle.rules.specs.Row.{Kind, B, M, E, Node, node}
 use Rattle.rules.specs.Street.{step, run, counted, kind, next, Placing, Earlier, here, there, IsFirst, Passes, StopsAt, firstFrom, also, way, empty, first, failing}
-use Rattle.rules.proofs.Runs.{Ends, Runs, ends-at, at-ends, Onward, onward}
+use Rattle.rules.proofs.Runs.{Ends, Runs, ends-at, at-ends, Onward, onward, run-take}
+use Rattle.rules.proofs.Least.{least-le, least-holds, least-before}
 
 pub earlier-asymmetric : {ps qs : List ℕ} → Earlier ps qs → Earlier qs ps → ⊥
 earlier-asymmetric (here a) (here b) = omega arith
@@ -157,3 +160,75 @@ module _ (ku kl : ℕ) (ns : List Node) where
 
   pub no-placing : ((qs : List ℕ) → Placing ku kl ns qs → ⊥) → first ku kl ns ≡ none
   no-placing f = right-unique (Placing ku kl ns) (first ku kl ns) none first-right f
+
+  pub is-first-unique : (ps qs : List ℕ) → IsFirst ku kl ns ps → IsFirst ku kl ns qs → ps ≡ qs
+  is-first-unique ps qs f g = cc (first-unique ps f, first-unique qs g)
+
+module _ (ku kl : ℕ) where
+  runs-passes : (ns : List Node) (ps : List ℕ) → Runs (run ku kl ns [] ps) → Passes ku kl ns
+  runs-passes ns ps t = let w = ends-at (λ o. true) (run ku kl ns [] ps) t in record { ps = ps; order = w .0; runs = w .1 }
+
+  passes-runs : (ns : List Node) (h : Passes ku kl ns) → Runs (run ku kl ns [] (h .ps))
+  passes-runs ns h = at-ends (λ o. true) (h .runs) tt
+
+  pub passes-yes : (ns : List Node) → isNone (way (λ o. true) ku kl ns []) ≡ false → Passes ku kl ns
+  unfolding isNone
+  passes-yes ns e = go (way (λ o. true) ku kl ns []) (way-right (λ o. true) ku kl ns []) e
+    where
+      go : (r : Option (List ℕ)) → Right (Leads (λ o. true) ku kl ns []) r → isNone r ≡ false → Passes ku kl ns
+      go none h e = let z : _≡_ {A = ℕ} 0 1 = cc in absurd (omega arith)
+      go (some ps) h e = runs-passes ns ps (h .holds)
+
+  pub passes-no : (ns : List Node) → isNone (way (λ o. true) ku kl ns []) ≡ true → Passes ku kl ns → ⊥
+  unfolding isNone
+  passes-no ns e p = go (way (λ o. true) ku kl ns []) (way-right (λ o. true) ku kl ns []) e
+    where
+      go : (r : Option (List ℕ)) → Right (Leads (λ o. true) ku kl ns []) r → isNone r ≡ true → ⊥
+      go none h e = h (p .ps) (passes-runs ns p)
+      go (some ps) h e = let z : _≡_ {A = ℕ} 0 1 = cc in omega arith
+
+  pub passes-nil : Passes ku kl []
+  unfolding run
+  passes-nil = record { ps = []; order = []; runs = refl }
+
+  pub passes-take : (j : ℕ) (ns : List Node) → Passes ku kl ns → Passes ku kl (take j ns)
+  passes-take j ns h = runs-passes (take j ns) (take j (h .ps)) (run-take ku kl j ns [] (h .ps) (passes-runs ns h))
+
+  -- the nodes before the failing one pass
+  failing-sooner : (ns : List Node) (j : ℕ) → j ≤ failing ku kl ns → Passes ku kl (take j ns)
+  unfolding failing
+  failing-sooner ns zero h = passes-nil
+  failing-sooner ns (suc j) h = passes-yes (take (suc j) ns) (least-before (λ i. isNone (way (λ o. true) ku kl (take (suc i) ns) [])) (length ns) j h)
+
+  pub failing-stops : (ns : List Node) → failing ku kl ns < length ns → StopsAt ku kl ns (suc (failing ku kl ns))
+  unfolding failing
+  failing-stops ns h =
+      record {
+        within = h;
+        stuck = passes-no (take (suc (failing ku kl ns)) ns) (least-holds (λ i. isNone (way (λ o. true) ku kl (take (suc i) ns) [])) (length ns) h);
+        sooner = λ j l. failing-sooner ns j (omega arith);
+      }
+
+  pub failing-passes : (ns : List Node) → failing ku kl ns ≡ length ns → Passes ku kl ns
+  failing-passes ns e = rw (take-length ns) at (failing-sooner ns (length ns) (omega arith))
+
+  stops-le : (ns : List Node) (i j : ℕ) → StopsAt ku kl ns i → StopsAt ku kl ns j → i ≤ j
+  stops-le ns i j f g = go (leb i j) refl
+    where
+      go : (b : Bool) → leb i j ≡ b → i ≤ j
+      go true e = leb-true i j e
+      go false e = absurd (g .stuck (f .sooner j (leb-false i j e)))
+
+  pub stops-unique : (ns : List Node) (i j : ℕ) → StopsAt ku kl ns i → StopsAt ku kl ns j → i ≡ j
+  stops-unique ns i j f g = omega (arith, stops-le ns i j f g, stops-le ns j i g f)
+
+  pub failing-le : (ns : List Node) → failing ku kl ns ≤ length ns
+  unfolding failing
+  failing-le ns = least-le (λ i. isNone (way (λ o. true) ku kl (take (suc i) ns) [])) (length ns)
+
+  pub stops-failing : (ns : List Node) (i : ℕ) → StopsAt ku kl ns i → i ≡ suc (failing ku kl ns)
+  stops-failing ns i f = go (eq-or-lt-of-le (failing-le ns))
+    where
+      go : (failing ku kl ns ≡ length ns) ⊎ (failing ku kl ns < length ns) → i ≡ suc (failing ku kl ns)
+      go (inl e) = absurd (f .stuck (passes-take i ns (failing-passes ns e)))
+      go (inr l) = stops-unique ns i (suc (failing ku kl ns)) f (failing-stops ns l)
