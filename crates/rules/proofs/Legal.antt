@@ -1,7 +1,7 @@
 -- Entries pass the judgement exactly when they are those of a placing: their kinds and positions meet every rule, from no open net to none.
 use mathlib.Core.Path.{_≡_, refl, sym, ap, ap₂, _∙_}
 use mathlib.Core.Bool.{Bool, true, false, not, _&&_}
-use mathlib.Core.List.{List, [], _∷_, map}
+use mathlib.Core.List.{List, [], _∷_, map, tail}
 use mathlib.Core.Option.{Option, none, some}
 use Prim.Native.Nat.{ℕ, zero, suc, _+_, _-_, _≤_, _<_}
 use native.Mathlib.Omega.{arith}
@@ -108,9 +108,9 @@ module _ (ku kl : ℕ) where
       let a = onto ku kl n ns o p ps [] e in
       let k : kindIn (code (kind n)) ≡ kind n = kindIn-code (kind n) in
       let p≡ : suc (p - 1) ≡ p = omega (arith, a .fitted .low) in
-      then (λ q. omega (arith, code-lt (kind n)))
-        (rw (k, p≡) (a .fitted))
-        (rw (k, ← length-next n o p (a .fitted .low) (a .fitted .high)) (placing-legal ns (next n o p) ps (a .rest)))
+      then {b = length o} {f = code (kind n)} {a = p - 1} {es = entries ns ps} (λ (q : code (kind n) ≡ 3). omega (arith, code-lt (kind n)))
+      (rw (k, p≡) (a .fitted))
+      (rw (k, ← length-next n o p (a .fitted .low) (a .fitted .high)) (placing-legal ns (next n o p) ps (a .rest)))
 
 -- each B of the nodes from i on has its own number for a net
 pub data Own : ℕ → List Node → Type 0 where
@@ -124,7 +124,27 @@ module _ (ku kl : ℕ) where
       let k : p - 1 ≡ before x o = omega arith in
       rw k (sym (at-before x o (omega arith)))
 
+  -- a net that stands at p is the same whatever node touches it there, and a new one has its own number
+  same-net : (i : ℕ) (k : Kind) (x y p : ℕ) (o : List ℕ) → (k ≡ B → x ≡ i) → (k ≡ B → y ≡ i) → T (stands (node k x) o p) → T (stands (node k y) o p)
+      → p ≤ counted k (length o) → x ≡ y
+  unfolding stands counted
+  same-net i B x y p o hx hy sx sy h = hx refl ∙ sym (hy refl)
+  same-net i M x y p o hx hy sx sy h = stood-at x p o sx h ∙ sym (stood-at y p o sy h)
+  same-net i E x y p o hx hy sx sy h = stood-at x p o sx h ∙ sym (stood-at y p o sy h)
+
   -- nodes with the same kinds and positions are the same
   pub same-entries : {i : ℕ} {ns ms : List Node} → Own i ns → Own i ms → (o ps v w : List ℕ)
       → run ku kl ns o ps ≡ some v → run ku kl ms o ps ≡ some w → map kind ns ≡ map kind ms → ns ≡ ms
-  same-entries a b o ps v w e e′ k = ?
+  unfolding run kind
+  same-entries nil nil o ps v w e e′ k = refl
+  same-entries nil (cons h b) o ps v w e e′ k = let z : _≡_ {A = ℕ} 0 1 = cc in absurd (omega arith)
+  same-entries (cons h a) nil o ps v w e e′ k = let z : _≡_ {A = ℕ} 0 1 = cc in absurd (omega arith)
+  same-entries (cons h a) (cons h′ b) o [] v w e e′ k = let z : _≡_ {A = ℕ} 0 1 = cc in absurd (omega arith)
+  same-entries (cons {i} {x} {k = k} {ns} h a) (cons {x = y} {k = l} {ns = ms} h′ b) o (p ∷ ps) v w e e′ q =
+      let k≡ : l ≡ k = cc in
+      let s = onto ku kl (node k x) ns o p ps v e in
+      let t = onto ku kl (node l y) ms o p ps w e′ in
+      let x≡ : x ≡ y = same-net i k x y p o h (λ r. h′ (k≡ ∙ r)) (s .stood) (rw k≡ at (t .stood)) (s .fitted .high) in
+      let n≡ : node k x ≡ node l y = cc in
+      ap₂ {C = List Node} (λ n r. n ∷ r) n≡
+      (same-entries a b (next (node k x) o p) ps v w (s .rest) (rw (← n≡) at (t .rest)) (ap tail q))
