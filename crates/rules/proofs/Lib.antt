@@ -8,4 +8,5 @@ pub mod Choices
 pub mod Pins
 pub mod Open
 pub mod Legal
+pub mod GivenBack
 pub mod Specimens
