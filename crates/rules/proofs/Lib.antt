@@ -1,9 +1,11 @@
 pub mod Fields
 pub mod Lists
 pub mod Least
+pub mod Earlier
 pub mod Fits
 pub mod Runs
 pub mod Search
+pub mod Failing
 pub mod Choices
 pub mod Pins
 pub mod Open
