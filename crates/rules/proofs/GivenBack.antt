@@ -18,7 +18,7 @@ use Rattle.rules.specs.Sheet.{code, kindIn, Entry, entry, entries, begun
 use Rattle.rules.specs.Judgement.{left}
 use Rattle.rules.proofs.Lists.{length-put, length-cut}
 use Rattle.rules.proofs.Fits.{Fits}
-use Rattle.rules.proofs.Runs.{Ends, ends-at, Onward, go-on}
+use Rattle.rules.proofs.Runs.{Ends, ends-at, Onward, onward-leads}
 use Rattle.rules.proofs.Pins.{at-before, tabulate-cong, length-tabulate}
 use Rattle.rules.proofs.Open.{one, one-same, one-other, times, times-put, times-cut}
 use Rattle.rules.proofs.Legal.{Legal, done, then, code-kindIn}

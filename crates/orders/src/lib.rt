@@ -1,0 +1,1 @@
+// Sets of orders, as marks on ranks in lent bytes, and the passes of the router over them.
