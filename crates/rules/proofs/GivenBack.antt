@@ -73,3 +73,53 @@ before-once (y ∷ o) h (suc a) l = go (eqb y (getD o a 0)) refl (before-once o 
     go : (t : Bool) → eqb y (getD o a 0) ≡ t → before (getD o a 0) o ≡ a → pick t 0 (suc (before (getD o a 0) o)) ≡ suc a
     go true e ih = absurd (omega (arith, rw e at (h (getD o a 0)), times-at o a (le-of-suc-le-suc l)))
     go false e ih = ap suc ih
+
+-- ---- the walk: labels so far, nets begun, the order of numbers
+
+pub record Walk (pre : List ℕ) (n : ℕ) (o : List ℕ) : Type 0 where
+  pub once : (x : ℕ) → times x o ≤ 1
+  pub seen : (x : ℕ) → 0 < times x o → 0 < times x pre
+  pub low : (x : ℕ) → 0 < times x pre → x < n
+
+-- the order after an entry
+abbrev pub then-order : Kind → (a n : ℕ) → List ℕ → List ℕ
+then-order k a n o = next (node k n) o (suc a)
+
+less-one : (a : ℕ) → suc a - 1 ≡ a
+less-one a = omega arith
+
+pub length-then : (k : Kind) (a n : ℕ) (o : List ℕ) → a < counted k (length o) → length (then-order k a n o) ≡ left k (length o)
+unfolding next counted left
+length-then B a n o h = length-put (suc a - 1) n o
+length-then M a n o h = refl
+length-then E a n o h = omega (arith, length-cut (suc a - 1) o (omega arith))
+
+-- how often x stands in the order after an entry
+times-begin : (x a n : ℕ) (o : List ℕ) → times x (then-order B a n o) ≡ one (eqb n x) + times x o
+unfolding next
+times-begin x a n o = times-put x (suc a - 1) n o
+
+times-end : (x a n : ℕ) (o : List ℕ) → a < length o → one (eqb (getD o a 0) x) + times x (then-order E a n o) ≡ times x o
+unfolding next
+times-end x a n o h = rw (less-one a) (times-cut x a o h)
+
+unless : (t : Bool) → one t ≤ 1
+unfolding one
+unless true = omega arith
+unless false = omega arith
+
+-- a net other than 0 times is there
+one-pos : (x y : ℕ) → 0 < one (eqb y x) → y ≡ x
+unfolding one
+one-pos x y h = go (eqb y x) refl h
+  where
+    go : (t : Bool) → eqb y x ≡ t → 0 < one t → y ≡ x
+    go true e h = eqb-true y x e
+    go false e h = absurd (omega arith)
+
+walk-next : (k : Kind) (a : ℕ) (pre : List ℕ) (n : ℕ) (o : List ℕ) → Walk pre n o → a < counted k (length o)
+    → Walk (pre ++ (labelled k a n o ∷ [])) (begun k n) (then-order k a n o)
+unfolding counted labelled begun
+walk-next B a pre n o w h = ?
+walk-next M a pre n o w h = ?
+walk-next E a pre n o w h = ?
