@@ -8,4 +8,5 @@ pub mod Choices
 pub mod Pins
 pub mod Open
 pub mod Legal
+pub mod SheetFields
 pub mod Specimens
