@@ -11,4 +11,5 @@ pub mod Pins
 pub mod Open
 pub mod Legal
 pub mod GivenBack
+pub mod SheetFields
 pub mod Specimens
