@@ -6,10 +6,11 @@ use mathlib.Core.Logic.{_⊎_, inl, inr}
 use mathlib.Core.Option.{Option, none, some}
 use Prim.Native.Nat.{ℕ, zero, suc, _+_, _-_, _≤_, _<_}
 use native.Mathlib.Nat.{eq-zero-or-pos, le-of-suc-le-suc, not-suc-le-zero, zero-add, add-zero}
+use native.Mathlib.Numerals.{add-one}
 use native.Mathlib.Omega.{arith}
 use lib.ListN.{length, getD, drop, length-append, List·getD-map, length-map}
 use lib.Seq.{getD-append-seam, drop-append-add}
-use lib.Dec.{T, eqb, ltb}
+use lib.Dec.{T, eqb, ltb, eqb-refl}
 use borrow.Author.Tests.{eqb-true, eqb-false, eq-eqb, ne-eqb, lt-ltb, le-ltb}
 use Rattle.rules.specs.Basic.{pick, put, cut, tabulate}
 use Rattle.rules.specs.Row.{before, has, home, later, lone, Kind, B, M, E, Node, node, nodeAt, nodes, kindOf}
@@ -18,10 +19,11 @@ use Rattle.rules.specs.Sheet.{code, kindIn, Entry, entry, entries, begun
 use Rattle.rules.specs.Judgement.{left}
 use Rattle.rules.proofs.Lists.{length-put, length-cut}
 use Rattle.rules.proofs.Fits.{Fits}
-use Rattle.rules.proofs.Runs.{Ends, ends-at, Onward, onward-leads}
+use Rattle.rules.proofs.Runs.{Leads, ends-at, onward-leads}
 use Rattle.rules.proofs.Pins.{at-before, tabulate-cong, length-tabulate}
 use Rattle.rules.proofs.Open.{one, one-same, one-other, times, times-put, times-cut}
 use Rattle.rules.proofs.Legal.{Legal, done, then, code-kindIn}
+use Rattle.rules.proofs.Renamed.{map-put, map-cut, before-map}
 
 -- ---- lists: where a number that is in one stands
 
@@ -117,9 +119,346 @@ one-pos x y h = go (eqb y x) refl h
     go true e h = eqb-true y x e
     go false e h = absurd (omega arith)
 
+times-snoc : (x y : ℕ) (pre : List ℕ) → times x (pre ++ (y ∷ [])) ≡ times x pre + one (eqb y x)
+unfolding times
+times-snoc x y pre = omega (arith, times-append x pre (y ∷ []))
+
+-- a label that was seen is seen again
+walk-again : (a : ℕ) (pre : List ℕ) (n : ℕ) (o o′ : List ℕ) → Walk pre n o → a < length o → ((x : ℕ) → times x o′ ≤ times x o)
+    → Walk (pre ++ (getD o a 0 ∷ [])) n o′
+walk-again a pre n o o′ w h less =
+    record {
+      once = λ x. omega (arith, less x, w .once x);
+      seen = λ x t. omega (arith, times-snoc x (getD o a 0) pre, w .seen x (omega (arith, less x)));
+      low = λ x t. low x t (eq-zero-or-pos (times x pre));
+    }
+  where
+    low : (x : ℕ) → 0 < times x (pre ++ (getD o a 0 ∷ [])) → (times x pre ≡ 0) ⊎ (0 < times x pre) → x < n
+    low x t (inl z) =
+        let e : getD o a 0 ≡ x = one-pos x (getD o a 0) (omega (arith, times-snoc x (getD o a 0) pre)) in
+        w .low x (w .seen x (rw e at (times-at o a h)))
+    low x t (inr q) = w .low x q
+
 walk-next : (k : Kind) (a : ℕ) (pre : List ℕ) (n : ℕ) (o : List ℕ) → Walk pre n o → a < counted k (length o)
     → Walk (pre ++ (labelled k a n o ∷ [])) (begun k n) (then-order k a n o)
-unfolding counted labelled begun
-walk-next B a pre n o w h = ?
-walk-next M a pre n o w h = ?
-walk-next E a pre n o w h = ?
+unfolding counted labelled begun next
+walk-next B a pre n o w h =
+    record {
+      once = λ x. once x (eq-zero-or-pos (times x o));
+      seen = λ x t. seen x t (eq-zero-or-pos (times x o));
+      low = λ x t. low x t (eq-zero-or-pos (times x pre));
+    }
+  where
+    once : (x : ℕ) → (times x o ≡ 0) ⊎ (0 < times x o) → times x (then-order B a n o) ≤ 1
+    once x (inl z) = omega (arith, times-begin x a n o, unless (eqb n x))
+    once x (inr t) =
+        let l : x < n = w .low x (w .seen x t) in
+        omega (arith, times-begin x a n o, one-other x n (λ (e : n ≡ x). omega arith), w .once x)
+
+    seen : (x : ℕ) → 0 < times x (then-order B a n o) → (times x o ≡ 0) ⊎ (0 < times x o) → 0 < times x (pre ++ (n ∷ []))
+    seen x t (inl z) = omega (arith, times-begin x a n o, times-snoc x n pre)
+    seen x t (inr q) = omega (arith, times-snoc x n pre, w .seen x q)
+
+    low : (x : ℕ) → 0 < times x (pre ++ (n ∷ [])) → (times x pre ≡ 0) ⊎ (0 < times x pre) → x < suc n
+    low x t (inl z) = let e : n ≡ x = one-pos x n (omega (arith, times-snoc x n pre)) in omega arith
+    low x t (inr q) = omega (arith, w .low x q)
+walk-next M a pre n o w h = walk-again a pre n o o w h (λ x. omega arith)
+walk-next E a pre n o w h = walk-again a pre n o (then-order E a n o) w h (λ x. omega (arith, times-end x a n o h))
+
+-- ---- what the rest of the row holds
+
+-- a net in the order is the node's, or stays in the order
+stays : (k : Kind) (a n : ℕ) (o : List ℕ) (x : ℕ) → a < counted k (length o) → 0 < times x o
+    → (0 < one (eqb (labelled k a n o) x)) ⊎ (0 < times x (then-order k a n o))
+unfolding counted labelled next
+stays B a n o x h t = inr (omega (arith, times-begin x a n o))
+stays M a n o x h t = inr t
+stays E a n o x h t = go (eq-zero-or-pos (one (eqb (getD o a 0) x)))
+  where
+    go : (one (eqb (getD o a 0) x) ≡ 0) ⊎ (0 < one (eqb (getD o a 0) x)) → (0 < one (eqb (getD o a 0) x)) ⊎ (0 < times x (then-order E a n o))
+    go (inl z) = inr (omega (arith, times-end x a n o h))
+    go (inr q) = inl q
+
+-- a net that was begun and is not in the order is not the node's, and stays out
+record Out (k : Kind) (a n : ℕ) (o : List ℕ) (x : ℕ) : Type 0 where
+  here : one (eqb (labelled k a n o) x) ≡ 0
+  after : times x (then-order k a n o) ≡ 0
+  low : x < begun k n
+
+not-there : (a : ℕ) (o : List ℕ) (x : ℕ) → a < length o → times x o ≡ 0 → one (eqb (getD o a 0) x) ≡ 0
+not-there a o x h z = one-other x (getD o a 0) (λ (e : getD o a 0 ≡ x). absurd (omega (arith, rw e at (times-at o a h))))
+
+stays-out : (k : Kind) (a n : ℕ) (o : List ℕ) (x : ℕ) → a < counted k (length o) → times x o ≡ 0 → x < n → Out k a n o x
+unfolding counted labelled next begun
+stays-out B a n o x h z l =
+    let e : one (eqb n x) ≡ 0 = one-other x n (λ (q : n ≡ x). omega arith) in
+    record { here = e; after = omega (arith, times-begin x a n o); low = omega arith }
+stays-out M a n o x h z l = record { here = not-there a o x h z; after = z; low = l }
+stays-out E a n o x h z l = record { here = not-there a o x h z; after = omega (arith, times-end x a n o h); low = l }
+
+module _ (ku kl : ℕ) where
+  -- a net in the order comes again
+  pub comes : {b : ℕ} {es : List Entry} → Legal ku kl b es → (n : ℕ) (o : List ℕ) → length o ≡ b → (x : ℕ) → 0 < times x o → 0 < times x (labels n o es)
+  unfolding labels times
+  comes done n [] e x t = t
+  comes done n (y ∷ o) e x t = absurd (omega arith)
+  comes (then {b} {f} {a} {es} f≢ h l) n o e x t =
+      let g : a < counted (kindIn f) (length o) = rw e (h .high) in
+      go (stays (kindIn f) a n o x g t)
+      (comes l (begun (kindIn f) n) (then-order (kindIn f) a n o) (length-then (kindIn f) a n o g ∙ ap (left (kindIn f)) e) x)
+    where
+      go : (0 < one (eqb (labelled (kindIn f) a n o) x)) ⊎ (0 < times x (then-order (kindIn f) a n o))
+          → (0 < times x (then-order (kindIn f) a n o) → 0 < times x (labels (begun (kindIn f) n) (then-order (kindIn f) a n o) es))
+          → 0 < one (eqb (labelled (kindIn f) a n o) x) + times x (labels (begun (kindIn f) n) (then-order (kindIn f) a n o) es)
+      go (inl q) ih = omega arith
+      go (inr q) ih = omega (arith, ih q)
+
+  -- a net that is out does not
+  pub gone : {b : ℕ} {es : List Entry} → Legal ku kl b es → (n : ℕ) (o : List ℕ) → length o ≡ b → (x : ℕ) → times x o ≡ 0 → x < n
+      → times x (labels n o es) ≡ 0
+  unfolding labels times
+  gone done n o e x z l = refl
+  gone (then {b} {f} {a} {es} f≢ h l) n o e x z q =
+      let g : a < counted (kindIn f) (length o) = rw e (h .high) in
+      let u = stays-out (kindIn f) a n o x g z q in
+      omega (
+        arith,
+        u .here,
+        gone l (begun (kindIn f) n) (then-order (kindIn f) a n o) (length-then (kindIn f) a n o g ∙ ap (left (kindIn f)) e) x (u .after) (u .low),
+      )
+
+-- ---- kinds
+
+-- a label that was not seen is at its first node, one that was is not
+first-there : (x : ℕ) (pre rest : List ℕ) → times x pre ≡ 0 → eqb (before x (pre ++ x ∷ rest)) (length pre) ≡ true
+unfolding before pick
+first-there x pre rest z =
+    let e : before x (x ∷ rest) ≡ 0 = rw (eq-eqb x x refl) in
+    eq-eqb (before x (pre ++ x ∷ rest)) (length pre) (omega (arith, before-out x pre (x ∷ rest) z))
+
+first-past : (x : ℕ) (pre rest : List ℕ) → 0 < times x pre → eqb (before x (pre ++ x ∷ rest)) (length pre) ≡ false
+first-past x pre rest t = ne-eqb (before x (pre ++ x ∷ rest)) (length pre) (λ (e : before x (pre ++ x ∷ rest) ≡ length pre). omega (arith, before-in x pre (x ∷ rest) t))
+
+-- the kind of a node after the labels pre, and that it is not lone
+record KindBack (k : Kind) (x : ℕ) (pre rest : List ℕ) : Type 0 where
+  is : kindOf (eqb (before x (pre ++ x ∷ rest)) (length pre)) (has x rest) ≡ k
+  not-lone : eqb (before x (pre ++ x ∷ rest)) (length pre) && not (has x rest) ≡ false
+
+module _ (ku kl : ℕ) where
+  kind-back : {es : List Entry} (k : Kind) (a n : ℕ) (o pre : List ℕ) → Walk pre n o → a < counted k (length o) → Legal ku kl (left k (length o)) es
+      → KindBack k (labelled k a n o) pre (labels (begun k n) (then-order k a n o) es)
+  unfolding counted left labelled begun kindOf next
+  kind-back {es} B a n o pre w h l =
+      let rest : List ℕ = labels (suc n) (then-order B a n o) es in
+      let f : eqb (before n (pre ++ n ∷ rest)) (length pre) ≡ true = first-there n pre rest (fresh (eq-zero-or-pos (times n pre))) in
+      let r : has n rest ≡ true = has-in n rest (comes ku kl l (suc n) (then-order B a n o) (length-then B a n o h) n (omega (arith, times-begin n a n o, one-same n))) in
+      record { is = rw f; not-lone = rw (f, r) }
+    where
+      fresh : (times n pre ≡ 0) ⊎ (0 < times n pre) → times n pre ≡ 0
+      fresh (inl z) = z
+      fresh (inr t) = absurd (omega (arith, w .low n t))
+  kind-back {es} M a n o pre w h l =
+      let x : ℕ = getD o a 0 in
+      let rest : List ℕ = labels n (then-order M a n o) es in
+      let f : eqb (before x (pre ++ x ∷ rest)) (length pre) ≡ false = first-past x pre rest (w .seen x (times-at o a h)) in
+      let r : has x rest ≡ true = has-in x rest (comes ku kl l n (then-order M a n o) (length-then M a n o h) x (times-at o a h)) in
+      record { is = rw (f, r); not-lone = rw f }
+  kind-back {es} E a n o pre w h l =
+      let x : ℕ = getD o a 0 in
+      let rest : List ℕ = labels n (then-order E a n o) es in
+      let f : eqb (before x (pre ++ x ∷ rest)) (length pre) ≡ false = first-past x pre rest (w .seen x (times-at o a h)) in
+      let z : times x (then-order E a n o) ≡ 0 = omega (arith, times-end x a n o h, one-same x, w .once x) in
+      let r : has x rest ≡ false = has-out x rest (gone ku kl l n (then-order E a n o) (length-then E a n o h) x z (w .low x (w .seen x (times-at o a h)))) in
+      record { is = rw (f, r); not-lone = rw f }
+
+-- ---- the nodes of the row
+
+-- entries as nodes, their nets known by the first node of their labels in the row r
+unfoldable pub tagged : (r : List ℕ) (n : ℕ) (o : List ℕ) → List Entry → List Node
+tagged r n o [] = []
+tagged r n o (entry f a ∷ es) =
+    node (kindIn f) (before (labelled (kindIn f) a n o) r) ∷ tagged r (begun (kindIn f) n) (then-order (kindIn f) a n o) es
+
+drop-there : (pre : List ℕ) (x : ℕ) (rest : List ℕ) → drop (suc (length pre)) (pre ++ x ∷ rest) ≡ rest
+drop-there pre x rest = ap (λ k. drop k (pre ++ x ∷ rest)) (sym (add-one (length pre))) ∙ drop-append-add pre (x ∷ rest) 1
+
+-- the node after the labels pre
+node-there : (pre : List ℕ) (x : ℕ) (rest : List ℕ)
+    → nodeAt (pre ++ x ∷ rest) (length pre)
+    ≡ node (kindOf (eqb (before x (pre ++ x ∷ rest)) (length pre)) (has x rest)) (before x (pre ++ x ∷ rest))
+unfolding nodeAt home later
+node-there pre x rest =
+    rw (getD-append-seam pre x rest 0, drop-there pre x rest)
+
+lone-there : (pre : List ℕ) (x : ℕ) (rest : List ℕ)
+    → lone (pre ++ x ∷ rest) (length pre) ≡ eqb (before x (pre ++ x ∷ rest)) (length pre) && not (has x rest)
+unfolding lone home later
+lone-there pre x rest =
+    rw (getD-append-seam pre x rest 0, drop-there pre x rest)
+
+pub length-labels : (n : ℕ) (o : List ℕ) (es : List Entry) → length (labels n o es) ≡ length es
+unfolding labels
+length-labels n o [] = refl
+length-labels n o (entry f a ∷ es) = ap suc (length-labels (begun (kindIn f) n) (then-order (kindIn f) a n o) es)
+
+snoc-cons : (pre : List ℕ) (x : ℕ) (l : List ℕ) → pre ++ x ∷ l ≡ (pre ++ (x ∷ [])) ++ l
+snoc-cons pre x l = sym (append-assoc pre (x ∷ []) l)
+
+length-snoc : (pre : List ℕ) (x : ℕ) → length (pre ++ (x ∷ [])) ≡ suc (length pre)
+length-snoc pre x = omega (arith, length-append pre (x ∷ []))
+
+module _ (ku kl : ℕ) where
+  -- the nodes of the row from the labels pre on
+  nodes-back : {b : ℕ} {es : List Entry} → Legal ku kl b es → (n : ℕ) (o pre r : List ℕ) → length o ≡ b → Walk pre n o → r ≡ pre ++ labels n o es
+      → tabulate (λ j. nodeAt r (length pre + j)) (length es) ≡ tagged r n o es
+  unfolding tabulate tagged labels
+  nodes-back done n o pre r q w e = refl
+  nodes-back (then {b} {f} {a} {es} f≢ h l) n o pre r q w e =
+      let k : Kind = kindIn f in
+      let g : a < counted k (length o) = rw q (h .high) in
+      let x : ℕ = labelled k a n o in
+      let o′ : List ℕ = then-order k a n o in
+      let rest : List ℕ = labels (begun k n) o′ es in
+      let kb = kind-back ku kl {es = es} k a n o pre w g (rw q l) in
+      let first : nodeAt r (length pre + 0) ≡ node k (before x r) =
+      ap (nodeAt r) (add-zero (length pre)) ∙ ap (λ s. nodeAt s (length pre)) e ∙ node-there pre x rest
+      ∙ ap₂ (λ c s. node c (before x s)) (kb .is) (sym e) in
+      let more : tabulate (λ j. nodeAt r (length (pre ++ (x ∷ [])) + j)) (length es) ≡ tagged r (begun k n) o′ es =
+      nodes-back l (begun k n) o′ (pre ++ (x ∷ [])) r (length-then k a n o g ∙ ap (left k) q) (walk-next k a pre n o w g) (e ∙ snoc-cons pre x rest) in
+      ap₂ {C = List Node} (λ m ms. m ∷ ms) first
+      (tabulate-cong (λ j. nodeAt r (length pre + suc j)) (λ j. nodeAt r (length (pre ++ (x ∷ [])) + j)) (length es)
+      (λ j t. ap (nodeAt r) (omega (arith, length-snoc pre x)))
+      ∙ more)
+
+  -- none of them is lone
+  whole-back : {b : ℕ} {es : List Entry} → Legal ku kl b es → (n : ℕ) (o pre r : List ℕ) → length o ≡ b → Walk pre n o → r ≡ pre ++ labels n o es
+      → (j : ℕ) → j < length es → lone r (length pre + j) ≡ false
+  unfolding labels
+  whole-back done n o pre r q w e j t = absurd (not-suc-le-zero t)
+  whole-back (then {b} {f} {a} {es} f≢ h l) n o pre r q w e zero t =
+      let k : Kind = kindIn f in
+      let g : a < counted k (length o) = rw q (h .high) in
+      let kb = kind-back ku kl {es = es} k a n o pre w g (rw q l) in
+      ap₂ lone e (add-zero (length pre)) ∙ lone-there pre (labelled k a n o) (labels (begun k n) (then-order k a n o) es) ∙ kb .not-lone
+  whole-back (then {b} {f} {a} {es} f≢ h l) n o pre r q w e (suc j) t =
+      let k : Kind = kindIn f in
+      let g : a < counted k (length o) = rw q (h .high) in
+      let x : ℕ = labelled k a n o in
+      ap (lone r) (omega (arith, length-snoc pre x))
+      ∙ whole-back l (begun k n) (then-order k a n o) (pre ++ (x ∷ [])) r (length-then k a n o g ∙ ap (left k) q) (walk-next k a pre n o w g)
+      (e ∙ snoc-cons pre x (labels (begun k n) (then-order k a n o) es)) j (le-of-suc-le-suc t)
+
+-- ---- the placing
+
+-- the positions of entries
+unfoldable pub places : List Entry → List ℕ
+places [] = []
+places (entry f a ∷ es) = suc a ∷ places es
+
+module _ (r : List ℕ) where
+  -- a label's first node in r
+  at-home : ℕ → ℕ
+  at-home x = before x r
+
+  -- labels that stand in r have different first nodes
+  at-home-inj : (x y : ℕ) → 0 < times x r → 0 < times y r → at-home y ≡ at-home x → y ≡ x
+  unfolding at-home
+  at-home-inj x y tx ty e = sym (found y ty) ∙ ap (λ k. getD r k 0) e ∙ found x tx
+    where
+      found : (z : ℕ) → 0 < times z r → getD r (before z r) 0 ≡ z
+      found z t = at-before z r (rw append-nil at (before-in z r [] t))
+
+  -- the street rules at a legal entry, its nets known by their first nodes
+  touched : (a : ℕ) (o : List ℕ) → ((x : ℕ) → times x o ≤ 1) → ((x : ℕ) → 0 < times x o → 0 < times x r) → a < length o
+      → T (eqb (suc a) (suc (before (at-home (getD o a 0)) (map at-home o))))
+  touched a o once seen h =
+      let x : ℕ = getD o a 0 in
+      let e : before (at-home x) (map at-home o) ≡ a =
+      before-map at-home x o (λ y t. at-home-inj x y (seen x (times-at o a h)) (seen y t)) ∙ before-once o once a h in
+      rw e (eqb-refl (suc a))
+
+  stands-back : (k : Kind) (a n : ℕ) (o : List ℕ) → ((x : ℕ) → times x o ≤ 1) → ((x : ℕ) → 0 < times x o → 0 < times x r) → a < counted k (length o)
+      → T (stands (node k (at-home (labelled k a n o))) (map at-home o) (suc a))
+  unfolding stands labelled counted
+  stands-back B a n o once seen h = tt
+  stands-back M a n o once seen h = touched a o once seen h
+  stands-back E a n o once seen h = touched a o once seen h
+
+  next-back : (k : Kind) (a n : ℕ) (o : List ℕ)
+      → next (node k (at-home (labelled k a n o))) (map at-home o) (suc a) ≡ map at-home (then-order k a n o)
+  unfolding next labelled
+  next-back B a n o = sym (map-put at-home (suc a - 1) n o)
+  next-back M a n o = refl
+  next-back E a n o = sym (map-cut at-home (suc a - 1) o)
+
+module _ (ku kl : ℕ) where
+  -- the entries' positions are a placing of the row's nodes
+  run-back : {b : ℕ} {es : List Entry} → Legal ku kl b es → (n : ℕ) (o pre r : List ℕ) → length o ≡ b → Walk pre n o → r ≡ pre ++ labels n o es
+      → Leads empty ku kl (tagged r n o es) (map (at-home r) o) (places es)
+  unfolding tagged places labels at-home run empty kind
+  run-back done n [] pre r q w e = tt
+  run-back done n (x ∷ o) pre r q w e = absurd (omega arith)
+  run-back (then {b} {f} {a} {es} f≢ h l) n o pre r q w e =
+      let k : Kind = kindIn f in
+      let g : a < counted k (length o) = rw q (h .high) in
+      let x : ℕ = labelled k a n o in
+      let o′ : List ℕ = then-order k a n o in
+      let seen : (y : ℕ) → 0 < times y o → 0 < times y r =
+      λ y t. rw (e, times-append y pre (x ∷ labels (begun k n) o′ es)) (omega (arith, w .seen y t)) in
+      onward-leads empty ku kl (node k (at-home r x)) (tagged r (begun k n) o′ es) (map (at-home r) o) (suc a) (places es)
+      (record {
+        stood = stands-back r k a n o (w .once) seen g;
+        fitted = rw (length-map o (at-home r), q) h;
+        rest = rw (next-back r k a n o) (run-back l (begun k n) o′ (pre ++ (x ∷ [])) r (length-then k a n o g ∙ ap (left k) q) (walk-next k a pre n o w g)
+            (e ∙ snoc-cons pre x (labels (begun k n) o′ es)));
+      })
+
+unfoldable pub entryKind : Entry → Kind
+entryKind (entry f a) = kindIn f
+
+tagged-kinds : (r : List ℕ) (n : ℕ) (o : List ℕ) (es : List Entry) → map kind (tagged r n o es) ≡ map entryKind es
+unfolding tagged kind entryKind
+tagged-kinds r n o [] = refl
+tagged-kinds r n o (entry f a ∷ es) = ap {B = List Kind} (λ l. kindIn f ∷ l) (tagged-kinds r (begun (kindIn f) n) (then-order (kindIn f) a n o) es)
+
+-- what holds of the row given back from entries
+pub record Back (ku kl : ℕ) (es : List Entry) (row : List ℕ) : Type 0 where
+  pub count : length row ≡ length es
+  pub whole : (i : ℕ) → i < length row → lone row i ≡ false
+  pub kinds : map kind (nodes row) ≡ map entryKind es
+  pub placing : Placing ku kl (nodes row) (places es)
+
+no-walk : Walk [] 0 []
+unfolding times
+no-walk = record { once = λ x. omega arith; seen = λ x t. t; low = λ x t. absurd (omega arith) }
+
+module _ (ku kl : ℕ) {es : List Entry} (legal : Legal ku kl 0 es) where
+  abbrev given : List ℕ
+  given = labels 0 [] es
+
+  nodes-given : nodes given ≡ tagged given 0 [] es
+  unfolding nodes
+  nodes-given =
+      ap (tabulate (nodeAt given)) (length-labels 0 [] es)
+      ∙ tabulate-cong (nodeAt given) (λ j. nodeAt given (0 + j)) (length es) (λ j t. ap (nodeAt given) (sym (zero-add j)))
+      ∙ nodes-back ku kl legal 0 [] [] given refl no-walk refl
+
+  empty-end : (w : List ℕ) → T (empty w) → w ≡ []
+  unfolding empty
+  empty-end [] t = refl
+  empty-end (x ∷ w) t = absurd t
+
+  -- the row given back has the entries' kinds, no lone label, and their positions for a placing
+  pub given-back : Back ku kl es given
+  given-back =
+      record {
+        count = length-labels 0 [] es;
+        whole = λ i h. ap (lone given) (sym (zero-add i)) ∙ whole-back ku kl legal 0 [] [] given refl no-walk refl i (rw (← length-labels 0 [] es) h);
+        kinds = ap (map kind) nodes-given ∙ tagged-kinds given 0 [] es;
+        placing = rw nodes-given placed;
+      }
+    where
+      placed : Placing ku kl (tagged given 0 [] es) (places es)
+      placed =
+          let e = ends-at empty (run ku kl (tagged given 0 [] es) [] (places es)) (run-back ku kl legal 0 [] [] given refl no-walk refl) in
+          e .1 ∙ ap {B = Option (List ℕ)} some (empty-end (e .0) (e .2))

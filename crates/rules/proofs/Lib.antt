@@ -10,6 +10,7 @@ pub mod Choices
 pub mod Pins
 pub mod Open
 pub mod Legal
+pub mod Renamed
 pub mod GivenBack
 pub mod SheetFields
 pub mod Specimens
