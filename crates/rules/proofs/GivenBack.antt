@@ -97,11 +97,11 @@ length-then M a n o h = refl
 length-then E a n o h = omega (arith, length-cut (suc a - 1) o (omega arith))
 
 -- how often x stands in the order after an entry
-times-begin : (x a n : ℕ) (o : List ℕ) → times x (then-order B a n o) ≡ one (eqb n x) + times x o
+pub times-begin : (x a n : ℕ) (o : List ℕ) → times x (then-order B a n o) ≡ one (eqb n x) + times x o
 unfolding next
 times-begin x a n o = times-put x (suc a - 1) n o
 
-times-end : (x a n : ℕ) (o : List ℕ) → a < length o → one (eqb (getD o a 0) x) + times x (then-order E a n o) ≡ times x o
+pub times-end : (x a n : ℕ) (o : List ℕ) → a < length o → one (eqb (getD o a 0) x) + times x (then-order E a n o) ≡ times x o
 unfolding next
 times-end x a n o h = rw (less-one a) (times-cut x a o h)
 
@@ -111,7 +111,7 @@ unless true = omega arith
 unless false = omega arith
 
 -- a net other than 0 times is there
-one-pos : (x y : ℕ) → 0 < one (eqb y x) → y ≡ x
+pub one-pos : (x y : ℕ) → 0 < one (eqb y x) → y ≡ x
 unfolding one
 one-pos x y h = go (eqb y x) refl h
   where

@@ -13,4 +13,6 @@ pub mod Legal
 pub mod Renamed
 pub mod GivenBack
 pub mod SheetFields
+pub mod Accepted
+pub mod Levels
 pub mod Specimens
