@@ -24,7 +24,7 @@ use Rattle.rules.proofs.Runs.{runs-length, at-ends}
 use Rattle.rules.proofs.Pins.{length-tabulate, nodes-same}
 use Rattle.rules.proofs.Open.{onto, times}
 use Rattle.rules.proofs.Legal.{Legal, done, then, scan-legal, legal-scan, legal-open, code-lt, code-kindIn, kindIn-code, placing-legal, Own, same-entries}
-use Rattle.rules.proofs.GivenBack.{times-at, times-begin, times-end, one-pos, places, entryKind, Back, given-back, then-order, length-then}
+use Rattle.rules.proofs.GivenBack.{times-at, times-begin, times-end, one-pos, places, entryKind, Numbered, Back, given-back, then-order, length-then}
 use Rattle.rules.proofs.SheetFields.{Narrow, LaidOut, laid-out, laid-out-again, upperOf-lt, lowerOf-lt, countOf-lt, narrow-entriesOf, length-entriesOf, same-bytes}
 
 -- a row with a placing, under track counts and a node count that the router takes
@@ -325,6 +325,11 @@ module _ (s : List ℕ) where
       nodes-same (x .row) (rowOf s)
       (same-entries (x .ku) (x .kl) (nodes-own (x .row)) (nodes-own (rowOf s)) [] (x .ps) [] [] run₁ run₂
       (sym (kinds-entries (x .ku) (x .kl) (nodes (x .row)) [] (x .ps) [] run₁) ∙ ap (map entryKind) (sym es) ∙ sym (k .kinds)))
+
+  -- and is labelled 0, 1, 2 in the order of the nets' first nodes
+  pub given-numbered : judge s ≡ none → Numbered (rowOf s)
+  unfolding rowOf
+  given-numbered e = given-back (upperOf s) (lowerOf s) (judge-passed s e .legal) .numbered
 
   -- accepted exactly when it is the sheet of some row's placing
   pub accepted : Below 256 s → judge s ≡ none ↔ SheetOf s

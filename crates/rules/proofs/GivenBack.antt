@@ -348,6 +348,64 @@ module _ (ku kl : ℕ) where
       ∙ whole-back l (begun k n) (then-order k a n o) (pre ++ (x ∷ [])) r (length-then k a n o g ∙ ap (left k) q) (walk-next k a pre n o w g)
       (e ∙ snoc-cons pre x (labels (begun k n) (then-order k a n o) es)) j (le-of-suc-le-suc t)
 
+-- ---- numbers in the order of first nodes
+
+-- how many nets begin before node i
+unfoldable pub firsts : List ℕ → ℕ → ℕ
+firsts row zero = 0
+firsts row (suc i) = one (eqb (home row i) i) + firsts row i
+
+-- labels are 0, 1, 2 in the order of the nets' first nodes
+pub Numbered : List ℕ → Type 0
+Numbered row = (i : ℕ) → i < length row → home row i ≡ i → getD row i 0 ≡ firsts row i
+
+home-there : (pre : List ℕ) (x : ℕ) (rest : List ℕ) → home (pre ++ x ∷ rest) (length pre) ≡ before x (pre ++ x ∷ rest)
+unfolding home
+home-there pre x rest = rw (getD-append-seam pre x rest 0)
+
+begun-first : (t l : Bool) (k : Kind) (n : ℕ) → kindOf t l ≡ k → begun k n ≡ one t + n
+unfolding kindOf begun one
+begun-first true l k n e = rw (← e) (omega arith)
+begun-first false true k n e = rw (← e) (omega arith)
+begun-first false false k n e = rw (← e) (omega arith)
+
+begun-label : (t l : Bool) (k : Kind) (a n : ℕ) (o : List ℕ) → kindOf t l ≡ k → t ≡ true → labelled k a n o ≡ n
+unfolding kindOf labelled
+begun-label true l k a n o e f = rw (← e)
+begun-label false l k a n o e f = let z : _≡_ {A = ℕ} 0 1 = cc in absurd (omega arith)
+
+module _ (ku kl : ℕ) where
+  numbered-back : {b : ℕ} {es : List Entry} → Legal ku kl b es → (n : ℕ) (o pre r : List ℕ) → length o ≡ b → Walk pre n o → r ≡ pre ++ labels n o es
+      → n ≡ firsts r (length pre) → (j : ℕ) → j < length es → home r (length pre + j) ≡ length pre + j → getD r (length pre + j) 0 ≡ firsts r (length pre + j)
+  unfolding labels firsts
+  numbered-back done n o pre r q w e m j t h = absurd (not-suc-le-zero t)
+  numbered-back (then {b} {f} {a} {es} f≢ h l) n o pre r q w e m zero t hm =
+      let k : Kind = kindIn f in
+      let g : a < counted k (length o) = rw q (h .high) in
+      let x : ℕ = labelled k a n o in
+      let rest : List ℕ = labels (begun k n) (then-order k a n o) es in
+      let kb = kind-back ku kl {es = es} k a n o pre w g (rw q l) in
+      let x≡ : getD r (length pre + 0) 0 ≡ x = ap₂ (λ s i. getD s i 0) e (add-zero (length pre)) ∙ getD-append-seam pre x rest 0 in
+      let t : before x (pre ++ x ∷ rest) ≡ length pre =
+      sym (home-there pre x rest) ∙ ap₂ home (sym e) (sym (add-zero (length pre))) ∙ hm ∙ add-zero (length pre) in
+      x≡ ∙ begun-label (eqb (before x (pre ++ x ∷ rest)) (length pre)) (has x rest) k a n o (kb .is) (eq-eqb (before x (pre ++ x ∷ rest)) (length pre) t)
+      ∙ m ∙ ap (firsts r) (sym (add-zero (length pre)))
+  numbered-back (then {b} {f} {a} {es} f≢ h l) n o pre r q w e m (suc j) t hm =
+      let k : Kind = kindIn f in
+      let g : a < counted k (length o) = rw q (h .high) in
+      let x : ℕ = labelled k a n o in
+      let rest : List ℕ = labels (begun k n) (then-order k a n o) es in
+      let kb = kind-back ku kl {es = es} k a n o pre w g (rw q l) in
+      let i≡ : length pre + suc j ≡ length (pre ++ (x ∷ [])) + j = omega (arith, length-snoc pre x) in
+      let m′ : begun k n ≡ firsts r (length (pre ++ (x ∷ []))) =
+      begun-first (eqb (before x (pre ++ x ∷ rest)) (length pre)) (has x rest) k n (kb .is)
+      ∙ ap₂ (λ u v. one (eqb u (length pre)) + v) (sym (home-there pre x rest) ∙ ap (λ s. home s (length pre)) (sym e)) m
+      ∙ ap (firsts r) (sym (length-snoc pre x)) in
+      ap (λ i. getD r i 0) i≡
+      ∙ numbered-back l (begun k n) (then-order k a n o) (pre ++ (x ∷ [])) r (length-then k a n o g ∙ ap (left k) q) (walk-next k a pre n o w g)
+      (e ∙ snoc-cons pre x rest) m′ j (le-of-suc-le-suc t) (ap (home r) (sym i≡) ∙ hm ∙ i≡)
+      ∙ ap (firsts r) (sym i≡)
+
 -- ---- the placing
 
 -- the positions of entries
@@ -427,6 +485,7 @@ pub record Back (ku kl : ℕ) (es : List Entry) (row : List ℕ) : Type 0 where
   pub whole : (i : ℕ) → i < length row → lone row i ≡ false
   pub kinds : map kind (nodes row) ≡ map entryKind es
   pub placing : Placing ku kl (nodes row) (places es)
+  pub numbered : Numbered row
 
 no-walk : Walk [] 0 []
 unfolding times
@@ -450,14 +509,22 @@ module _ (ku kl : ℕ) {es : List Entry} (legal : Legal ku kl 0 es) where
 
   -- the row given back has the entries' kinds, no lone label, and their positions for a placing
   pub given-back : Back ku kl es given
+  unfolding Numbered firsts
   given-back =
       record {
         count = length-labels 0 [] es;
         whole = λ i h. ap (lone given) (sym (zero-add i)) ∙ whole-back ku kl legal 0 [] [] given refl no-walk refl i (rw (← length-labels 0 [] es) h);
         kinds = ap (map kind) nodes-given ∙ tagged-kinds given 0 [] es;
         placing = rw nodes-given placed;
+        numbered = numbers;
       }
     where
+      numbers : Numbered given
+      numbers i h e =
+          ap (λ k. getD given k 0) (sym (zero-add i))
+          ∙ numbered-back ku kl legal 0 [] [] given refl no-walk refl refl i (rw (← length-labels 0 [] es) h) (ap (home given) (zero-add i) ∙ e ∙ sym (zero-add i))
+          ∙ ap (firsts given) (zero-add i)
+
       placed : Placing ku kl (tagged given 0 [] es) (places es)
       placed =
           let e = ends-at empty (run ku kl (tagged given 0 [] es) [] (places es)) (run-back ku kl legal 0 [] [] given refl no-walk refl) in

@@ -9,6 +9,7 @@ pub mod Failing
 pub mod Choices
 pub mod Pins
 pub mod Open
+pub mod NoPlacing
 pub mod Legal
 pub mod Renamed
 pub mod GivenBack
