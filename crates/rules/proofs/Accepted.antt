@@ -16,7 +16,7 @@ use Rattle.rules.specs.Basic.{keep, orElse, tabulate}
 use Rattle.rules.specs.Row.{before, home, later, lone, Kind, B, M, E, Node, node, nodeAt, nodes, kindOf, SamePins}
 use Rattle.rules.specs.Street.{counted, kind, next, run, Placing}
 use Rattle.rules.specs.Bits.{Below, bytes}
-use Rattle.rules.specs.Sheet.{takes, code, kindIn, Entry, entry, entries, size, sheetBits, sheet, upperOf, lowerOf, countOf, entriesOf, paddingOf, begun, labelled, labels, rowOf}
+use Rattle.rules.specs.Sheet.{takes, code, kindIn, Entry, entry, entries, size, sheetBits, sheet, upperOf, lowerOf, countOf, entriesOf, paddingOf, begun, labelled, labels, rowOf, Placed, SheetOf}
 use Rattle.rules.specs.Judgement.{wrongCount, head, middle, tail, judge, left, leftOpen, scan}
 use Rattle.rules.proofs.Fields.{below-mono}
 use Rattle.rules.proofs.Fits.{Fits}
@@ -26,14 +26,6 @@ use Rattle.rules.proofs.Open.{onto, times}
 use Rattle.rules.proofs.Legal.{Legal, done, then, scan-legal, legal-scan, legal-open, code-lt, code-kindIn, kindIn-code, placing-legal, Own, same-entries}
 use Rattle.rules.proofs.GivenBack.{times-at, times-begin, times-end, one-pos, places, entryKind, Numbered, Back, given-back, then-order, length-then}
 use Rattle.rules.proofs.SheetFields.{Narrow, LaidOut, laid-out, laid-out-again, upperOf-lt, lowerOf-lt, countOf-lt, narrow-entriesOf, length-entriesOf, same-bytes}
-
--- a row with a placing, under track counts and a node count that the router takes
-pub record Placed (row : List ℕ) (ku kl : ℕ) (ps : List ℕ) : Type 0 where
-  pub labels-fit : Below 256 row
-  pub count : wrongCount (length row) ≡ false
-  pub whole : (i : ℕ) → i < length row → lone row i ≡ false
-  pub tracks : takes ku kl ≡ true
-  pub placing : Placing ku kl (nodes row) ps
 
 -- ---- the entries of a placing
 
@@ -205,15 +197,6 @@ module _ (s : List ℕ) where
 
 -- ---- the theorem
 
--- s is the sheet of this row's placing
-pub record SheetOf (s : List ℕ) : Type 0 where
-  pub row : List ℕ
-  pub ku : ℕ
-  pub kl : ℕ
-  pub ps : List ℕ
-  pub placed : Placed row ku kl ps
-  pub is : s ≡ sheet ku kl (nodes row) ps
-
 takes-le : (ku kl : ℕ) → takes ku kl ≡ true → (ku ≤ 3) × (kl ≤ 3)
 unfolding takes
 takes-le ku kl e = go (leb ku 3) (leb kl 3) refl refl e
@@ -226,6 +209,14 @@ takes-le ku kl e = go (leb ku 3) (leb kl 3) refl refl e
 count-within : (n : ℕ) → wrongCount n ≡ false → (2 ≤ n) × (n ≤ 512)
 unfolding wrongCount
 count-within n e = let c = or-false (ltb n 2) (ltb 512 n) e in (ltb-false n 2 (c .0), ltb-false 512 n (c .1))
+
+within-count : (n : ℕ) → 2 ≤ n → n ≤ 512 → wrongCount n ≡ false
+unfolding wrongCount
+within-count n a b = rw (le-ltb n 2 a, le-ltb 512 n b)
+
+le-takes : (ku kl : ℕ) → ku ≤ 3 → kl ≤ 3 → takes ku kl ≡ true
+unfolding takes
+le-takes ku kl a b = rw (le-leb ku 3 a, le-leb kl 3 b)
 
 length-nodes : (row : List ℕ) → length (nodes row) ≡ length row
 unfolding nodes
@@ -260,10 +251,8 @@ module _ (row : List ℕ) (ku kl : ℕ) (ps : List ℕ) (p : Placed row ku kl ps
   pub placed-laid : LaidOut ku kl (entries (nodes row) ps) (sheet ku kl (nodes row) ps)
   unfolding sheet
   placed-laid =
-      let t = takes-le ku kl (p .tracks) in
-      let c = count-within (length row) (p .count) in
       let n : length (entries (nodes row) ps) ≡ length row = length-entries ku kl (nodes row) [] ps [] (p .placing) ∙ length-nodes row in
-      laid-out ku kl (omega arith) (omega arith) (omega arith) (narrow-entries ku kl (t .0) (nodes row) [] ps [] (p .placing))
+      laid-out ku kl (omega (arith, p .upper)) (omega (arith, p .lower)) (omega (arith, p .most)) (narrow-entries ku kl (p .upper) (nodes row) [] ps [] (p .placing))
 
   pub placed-passed : Passed (sheet ku kl (nodes row) ps)
   placed-passed =
@@ -271,8 +260,8 @@ module _ (row : List ℕ) (ku kl : ℕ) (ps : List ℕ) (p : Placed row ku kl ps
       let n : length (entries (nodes row) ps) ≡ length row = length-entries ku kl (nodes row) [] ps [] (p .placing) ∙ length-nodes row in
       record {
         long = rw (l .sized) (size-pos (length (entries (nodes row) ps)));
-        count = rw (l .count, n) (p .count);
-        tracks = rw (l .upper, l .lower) (p .tracks);
+        count = rw (l .count, n) (within-count (length row) (p .least) (p .most));
+        tracks = rw (l .upper, l .lower) (le-takes ku kl (p .upper) (p .lower));
         sized = l .sized ∙ ap size (sym (l .count));
         legal = rw (l .upper, l .lower, l .nodes) (placing-legal ku kl (nodes row) [] ps (p .placing));
         clear = l .clear;
@@ -289,6 +278,7 @@ module _ (s : List ℕ) where
       let k = given-back (upperOf s) (lowerOf s) (p .legal) in
       let n : length (rowOf s) ≡ countOf s = k .count ∙ length-entriesOf s in
       let c = count-within (countOf s) (p .count) in
+      let t = takes-le (upperOf s) (lowerOf s) (p .tracks) in
       record {
         row = rowOf s;
         ku = upperOf s;
@@ -296,10 +286,12 @@ module _ (s : List ℕ) where
         ps = places (entriesOf s);
         placed =
             record {
-              labels-fit = below-mono (omega (arith, begins-twice (p .legal), length-entriesOf s)) (labels-below (p .legal) 0 [] refl (λ x t. absurd (omega arith)));
-              count = ap wrongCount n ∙ p .count;
+              bytes-alone = below-mono (omega (arith, begins-twice (p .legal), length-entriesOf s)) (labels-below (p .legal) 0 [] refl (λ x t. absurd (omega arith)));
+              least = rw n (c .0);
+              most = rw n (c .1);
               whole = k .whole;
-              tracks = p .tracks;
+              upper = t .0;
+              lower = t .1;
               placing = k .placing;
             };
         is = laid-out-again b (p .sized) (p .clear)
