@@ -58,11 +58,14 @@ buffer n = replicate n 0xa5
 holds : Fact → Bool
 holds (routes row ku kl s) =
     let n = length row in
+    let work = buffer (90 * n + 1) in
     let out = buffer (size n + 3) in
-    let answer = routing row ku kl (buffer (90 * n)) out in
+    let answer = routing row ku kl work out in
     let r = reading s (buffer (n + 2)) in
-    sameSaid (routeSaid answer) 0 n && (same (sheetAfter answer row ku kl out) (s ++ buffer 3)
-    && (sameSaid (readSaid r) 0 n && (same (rowAfter r s (buffer (n + 2))) (rowOf s ++ buffer 2) && agrees row s)))
+    sameSaid (routeSaid answer) 0 n
+    && (same (sheetAfter answer row ku kl out) (s ++ buffer 3)
+    && (same (workAfter answer row work) (replicate (90 * n) 0 ++ buffer 1)
+    && (sameSaid (readSaid r) 0 n && (same (rowAfter r s (buffer (n + 2))) (rowOf s ++ buffer 2) && agrees row s))))
 holds (places row ku kl ps) =
     let n = length row in
     let answer = routing row ku kl (buffer (90 * n)) (buffer (size n)) in
@@ -155,7 +158,7 @@ causes =
     ∷ refused (0x10 ∷ 0x02 ∷ 0x02 ∷ 0x00 ∷ 0x00 ∷ []) 13 0
     ∷ refused (0x10 ∷ 0x02 ∷ 0x03 ∷ 0x00 ∷ []) 15 2
     ∷ refused (0x10 ∷ 0x02 ∷ 0x82 ∷ 0x00 ∷ []) 16 1
-    ∷ refused (0x10 ∷ 0x02 ∷ 0x04 ∷ 0x00 ∷ []) 16 1
+    ∷ refused (0x00 ∷ 0x02 ∷ 0x04 ∷ 0x00 ∷ []) 16 1
     ∷ refused (0x08 ∷ 0x04 ∷ 0x00 ∷ 0x18 ∷ 0x20 ∷ []) 17 2
     ∷ refused (0x3c ∷ 0x08 ∷ 0x00 ∷ 0x00 ∷ 0x00 ∷ 0x00 ∷ 0x00 ∷ 0x20 ∷ []) 17 5
     ∷ refused (0x14 ∷ 0x04 ∷ 0x00 ∷ 0x00 ∷ 0x60 ∷ []) 17 3
