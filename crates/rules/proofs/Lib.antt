@@ -15,5 +15,6 @@ pub mod Renamed
 pub mod GivenBack
 pub mod SheetFields
 pub mod Accepted
+pub mod Demand3
 pub mod Levels
 pub mod Specimens
