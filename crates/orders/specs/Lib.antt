@@ -1,1 +1,3 @@
 pub mod Plan
+pub mod Ranks
+pub mod Sets
