@@ -234,3 +234,22 @@ order-less (y ∷ ys) (suc a) r ha hr =
     order-put (spared q i) y (lessOf a (length ys) (r % f)) (cut a ys) l ∙
     ap (put (spared q i) y) (order-less ys a (r % f) (omega arith) (mod-lt r (fact-pos (length ys)))) ∙
     sym (cut-put-other q i y (orderOf ys (r % f)) hi)
+
+-- where the youngest net stands, and the rank without it
+pub at-youngest : (a b d r f : ℕ) → a ≡ 0 → b ≡ suc d → f ≡ fact d → r / f ≡ atOf a b r
+unfolding atOf
+at-youngest a b d r f ea eb ef = rw (ea, eb, ef)
+
+pub less-youngest : (a b d r f : ℕ) → a ≡ 0 → b ≡ suc d → f ≡ fact d → r % f ≡ lessOf a b r
+unfolding lessOf
+less-youngest a b d r f ea eb ef = rw (ea, eb, ef)
+
+-- where another net stands, and the rank without it, from those among the older nets
+module _ (a b c d r f i : ℕ) (ea : a ≡ suc c) (eb : b ≡ suc d) (ef : f ≡ fact d) (ei : i ≡ atOf c d (r % f)) where
+  pub at-older : under (r / f) i ≡ atOf a b r
+  unfolding atOf
+  at-older = rw (ea, eb, ei, ef)
+
+  pub less-older : (l : ℕ) → l ≡ lessOf c d (r % f) → spared (r / f) i * fact (d - 1) + l ≡ lessOf a b r
+  unfolding lessOf
+  less-older l el = rw (ea, eb, ei, el, ef)
