@@ -8,18 +8,21 @@ use Prim.Native.Nat.{ℕ, zero, suc, _+_, _-_, _*_, _≤_, _<_}
 use native.Mathlib.Nat.{eq-zero-or-pos}
 use native.Mathlib.Omega.{arith}
 use lib.ListN.{length, getD, take}
+use lib.Seq.{take-all, take-length, take-take}
 use lib.Dec.{T, eqb, eqb·suc-suc}
 use borrow.Author.Tests.{eqb-true, eqb-false}
 use Rattle.rules.specs.Basic.{put, cut, keep, andThen}
-use Rattle.rules.specs.Row.{before, Kind, B, M, E, Node, node}
-use Rattle.rules.specs.Street.{fits, counted, stands, next, kind, step as streetStep, run}
+use Rattle.rules.specs.Row.{before, lone, Kind, B, M, E, Node, node, nodes}
+use Rattle.rules.specs.Street.{fits, counted, stands, next, kind, step as streetStep, run, Placing, Earlier, IsFirst, Passes, StopsAt}
 use Rattle.rules.specs.Sheet.{code, kindIn}
 use Rattle.rules.specs.Judgement.{left}
 use Rattle.rules.proofs.Lists.{length-cut}
 use Rattle.rules.proofs.Fits.{Fits, fits→}
 use Rattle.rules.proofs.Pins.{at-before}
-use Rattle.rules.proofs.Open.{times, times-cut, one, one-other}
+use Rattle.rules.proofs.Open.{times, times-cut, one, one-other, onto, ends-empty}
 use Rattle.rules.proofs.Legal.{Own, kindIn-code}
+use Rattle.rules.proofs.Accepted.{nodes-own}
+use Rattle.rules.proofs.Failing.{passes-take}
 use Rattle.orders.specs.Plan.{Step, step, young, age, Steps, Tells}
 use Rattle.orders.specs.Ranks.{fact, orderOf, atOf, lessOf, hopOf, hops}
 use Rattle.orders.proofs.Hops.{hop-made}
@@ -229,3 +232,101 @@ module _ (ku kl : ℕ) (hu : ku ≤ 3) (hl : kl ≤ 3) where
           ≡ Option·map (orderOf (youngs (take j ns) (young n o))) (andThen x (λ y. hops ku kl (take j ss) y ps))
       go none q ih = refl
       go (some y) q ih = ih y (below y q)
+
+-- ---- ways of the steps are placings of the row
+
+earlier-suc : {ps qs : List ℕ} → Earlier ps qs → Earlier (map suc ps) (map suc qs)
+earlier-suc (Earlier.here {p} {q} h) = Earlier.here {p = suc p} {q = suc q} (omega arith)
+earlier-suc (Earlier.there e l) = Earlier.there (ap suc e) (earlier-suc l)
+
+-- positions of a run count from 1
+from-one : (ku kl : ℕ) (ns : List Node) (o qs w : List ℕ) → run ku kl ns o qs ≡ some w → (ps : List ℕ) × (qs ≡ map suc ps)
+unfolding run
+from-one ku kl [] o [] w e = ([], refl)
+from-one ku kl [] o (q ∷ qs) w e = let z : _≡_ {A = ℕ} 0 1 = cc in absurd (omega arith)
+from-one ku kl (n ∷ ns) o [] w e = let z : _≡_ {A = ℕ} 0 1 = cc in absurd (omega arith)
+from-one ku kl (n ∷ ns) o (q ∷ qs) w e =
+    let a = onto ku kl n ns o q qs w e in
+    let r = from-one ku kl ns (next n o q) qs w (a .rest) in
+    ((q - 1) ∷ r .0, ap₂ {C = List ℕ} (λ x l. x ∷ l) (omega (arith, a .fitted .low)) (r .1))
+
+mapped : {A C : Type 0} (f : A → C) (x : Option A) (c : C) → Option·map f x ≡ some c → (a : A) × (x ≡ some a)
+mapped f none c e = let z : _≡_ {A = ℕ} 0 1 = cc in absurd (omega arith)
+mapped f (some a) c e = (a, refl)
+
+nothing-began : Began 0 []
+unfolding times
+nothing-began = record { once = λ x. omega arith; past = λ x t. absurd (omega arith) }
+
+module _ (ku kl : ℕ) (hu : ku ≤ 3) (hl : kl ≤ 3) (row : List ℕ) (whole : (i : ℕ) → i < length row → lone row i ≡ false) {ss : List Step}
+    (tells : Tells (nodes row) [] ss) (steps : Steps 0 ss) where
+  runs-as-hops : (j : ℕ) (ps : List ℕ)
+      → run ku kl (take j (nodes row)) [] (map suc ps) ≡ Option·map (orderOf (youngs (take j (nodes row)) [])) (hops ku kl (take j ss) 0 ps)
+  unfolding orderOf fact
+  runs-as-hops j ps = run-hops ku kl hu hl j 0 tells steps (nodes-own row) nothing-began 0 (omega arith) ps
+
+  pub hops-passes : (j x : ℕ) (ps : List ℕ) → hops ku kl (take j ss) 0 ps ≡ some x → Passes ku kl (take j (nodes row))
+  hops-passes j x ps e =
+      record {
+        ps = map suc ps;
+        order = orderOf (youngs (take j (nodes row)) []) x;
+        runs = runs-as-hops j ps ∙ ap (Option·map (orderOf (youngs (take j (nodes row)) []))) e;
+      }
+
+  pub passes-hops : (j : ℕ) → Passes ku kl (take j (nodes row)) → (ps : List ℕ) × (x : ℕ) × (hops ku kl (take j ss) 0 ps ≡ some x)
+  passes-hops j h =
+      let q = from-one ku kl (take j (nodes row)) [] (h .ps) (h .order) (h .runs) in
+      let m = mapped (orderOf (youngs (take j (nodes row)) [])) (hops ku kl (take j ss) 0 (q .0)) (h .order)
+      (sym (runs-as-hops j (q .0)) ∙ ap (run ku kl (take j (nodes row)) []) (sym (q .1)) ∙ h .runs) in
+      (q .0, m .0, m .1)
+
+  length-told : {ns : List Node} {o : List ℕ} {ts : List Step} → Tells ns o ts → length ns ≡ length ts
+  length-told Tells.nil = refl
+  length-told (Tells.full e l) = ap suc l
+  length-told (Tells.more e t) = ap suc (length-told t)
+
+  whole-run : (ps : List ℕ) → run ku kl (nodes row) [] (map suc ps) ≡ Option·map (orderOf (youngs (nodes row) [])) (hops ku kl ss 0 ps)
+  whole-run ps =
+      let n : take (length ss) (nodes row) ≡ nodes row = take-all (length ss) (nodes row) (omega (arith, length-told tells)) in
+      let m : take (length ss) ss ≡ ss = take-length ss in
+      ap (λ ns. run ku kl ns [] (map suc ps)) (sym n) ∙ runs-as-hops (length ss) ps
+      ∙ ap₂ (λ ns ts. Option·map (orderOf (youngs ns [])) (hops ku kl ts 0 ps)) n m
+
+  -- positions that lead through all the steps are a placing
+  pub hops-placing : (ps : List ℕ) (x : ℕ) → hops ku kl ss 0 ps ≡ some x → Placing ku kl (nodes row) (map suc ps)
+  hops-placing ps x e =
+      let r : run ku kl (nodes row) [] (map suc ps) ≡ some (orderOf (youngs (nodes row) []) x) =
+      whole-run ps ∙ ap (Option·map (orderOf (youngs (nodes row) []))) e in
+      r ∙ ap some (ends-empty ku kl row whole (map suc ps) (orderOf (youngs (nodes row) []) x) r)
+
+  pub placing-hops : (qs : List ℕ) → Placing ku kl (nodes row) qs → (ps : List ℕ) × (qs ≡ map suc ps) × (x : ℕ) × (hops ku kl ss 0 ps ≡ some x)
+  placing-hops qs h =
+      let q = from-one ku kl (nodes row) [] qs [] h in
+      let m = mapped (orderOf (youngs (nodes row) [])) (hops ku kl ss 0 (q .0)) []
+      (sym (whole-run (q .0)) ∙ ap (run ku kl (nodes row) []) (sym (q .1)) ∙ h) in
+      (q .0, q .1, m .0, m .1)
+
+  -- the first positions on ranks are the first placing
+  pub hops-first : (ps : List ℕ) (x : ℕ) → hops ku kl ss 0 ps ≡ some x
+      → ((qs : List ℕ) (y : ℕ) → hops ku kl ss 0 qs ≡ some y → (qs ≡ ps) ⊎ Earlier ps qs) → IsFirst ku kl (nodes row) (map suc ps)
+  hops-first ps x e least =
+      record {
+        placing = hops-placing ps x e;
+        others = λ qs h. let p = placing-hops qs h in go qs (p .0) (p .1) (least (p .0) (p .2) (p .3));
+      }
+    where
+      go : (qs rs : List ℕ) → qs ≡ map suc rs → (rs ≡ ps) ⊎ Earlier ps rs → (qs ≡ map suc ps) ⊎ Earlier (map suc ps) qs
+      go qs rs q (inl z) = inl (q ∙ ap (map suc) z)
+      go qs rs q (inr l) = inr (rw q (earlier-suc l))
+
+  -- where r steps have a way and r + 1 have none, node r + 1 is the failing node
+  pub hops-stops : (r : ℕ) → r < length (nodes row) → (ps : List ℕ) (x : ℕ) → hops ku kl (take r ss) 0 ps ≡ some x
+      → ((qs : List ℕ) (y : ℕ) → hops ku kl (take (suc r) ss) 0 qs ≡ some y → ⊥) → StopsAt ku kl (nodes row) (suc r)
+  hops-stops r h ps x e no-more =
+      record {
+        within = h;
+        stuck = λ p. let q = passes-hops (suc r) p in no-more (q .0) (q .1) (q .2);
+        sooner = λ j l.
+            let p = passes-take ku kl j (take r (nodes row)) (hops-passes r x ps e) in
+            rw (take-take j r (nodes row) (omega arith)) at p;
+      }
