@@ -15,7 +15,7 @@ use Rattle.rules.specs.Row.{before, home, later, lone}
 use Rattle.rules.specs.Answers.{firstLone}
 use Rattle.rules.proofs.Pins.{before-found, home-le, label-home}
 use Rattle.rules.proofs.Least.{least-le, least-holds, least-before}
-use Rattle.rules.proofs.Open.{Ahead, later-ahead, ahead-later}
+use Rattle.rules.proofs.Open.{later-ahead, ahead-later}
 use Rattle.script.specs.Tabled.{noted, Firsts, Lasts, Tabled}
 
 -- ---- a node writes its number

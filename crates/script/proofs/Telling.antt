@@ -1,10 +1,9 @@
 -- The plan grows node by node: after each, what is told so far goes before whatever tells the rest of the row.
 use mathlib.Core.Path.{_≡_, refl, sym, ap, ap₂, subst, subst₂, _∙_}
 use mathlib.Core.Bool.{Bool, true, false, not, _&&_}
-use mathlib.Core.List.{List, [], _∷_, _++_, map, append-assoc, append-nil}
+use mathlib.Core.List.{List, [], _∷_, _++_, map, append-nil}
 use Prim.Native.Nat.{ℕ, zero, suc, _+_, _-_, _≤_, _<_}
 use native.Mathlib.Nat.{zero-add, suc-add}
-use native.Mathlib.Numerals.{add-one}
 use native.Mathlib.Omega.{arith}
 use lib.ListN.{length, getD, take, drop, set, replicate, length-set, length-map, length-drop, length-replicate, drop-of-length-le}
 use lib.Seq.{append-snoc, drop-cons, getD-take, getD-set-same, getD-set-other, set-getD, length-take-le}
@@ -12,7 +11,7 @@ use lib.Dec.{eqb}
 use borrow.Author.Tests.{eqb-true, eqb-false, eq-eqb}
 use Rattle.rules.specs.Basic.{tabulate}
 use Rattle.rules.specs.Bits.{Below, nil, cons}
-use Rattle.rules.specs.Row.{before, home, Kind, B, M, E, Node, node, nodeAt, nodes, kindOf}
+use Rattle.rules.specs.Row.{before, home, Kind, B, Node, node, nodeAt, nodes, kindOf}
 use Rattle.rules.specs.Street.{kind}
 use Rattle.rules.specs.Sheet.{code, kindIn}
 use Rattle.rules.proofs.Pins.{length-tabulate, getD-tabulate, tabulate-cong, before-found}

@@ -7,7 +7,7 @@ use native.Mathlib.Decide.{ℕ-discrete}
 use native.Mathlib.Omega.{arith}
 use lib.ListN.{length, getD}
 use lib.Dec.{eqb}
-use borrow.Author.Tests.{eqb-true, eqb-false}
+use borrow.Author.Tests.{eqb-false}
 use Rattle.rules.specs.Basic.{pick, cut, tabulate}
 use Rattle.rules.specs.Row.{before, home, later, Kind, B, M, E, Node, node, nodeAt, nodes, kindOf}
 use Rattle.rules.specs.Street.{kind}
@@ -106,7 +106,7 @@ module _ (row : List ℕ) (i : ℕ) (h : i < length row) (o : List ℕ) (kept : 
 
 -- ---- the nodes of a row from node i on
 
-data From (row : List ℕ) : ℕ → List Node → Type 0 where
+pub data From (row : List ℕ) : ℕ → List Node → Type 0 where
   nil : {i : ℕ} → From row i []
   cons : {i : ℕ} {n : Node} {ns : List Node} → i < length row → n ≡ nodeAt row i → From row (suc i) ns → From row i (n ∷ ns)
 
@@ -117,7 +117,7 @@ from-table row (suc k) i f g h =
     cons {i = i} (omega arith) (g 0 (omega arith) ∙ ap (nodeAt row) (omega arith))
     (from-table row k (suc i) (λ j. f (suc j)) (λ j l. g (suc j) (omega arith) ∙ ap (nodeAt row) (omega arith)) (omega arith))
 
-from-nodes : (row : List ℕ) → From row 0 (nodes row)
+pub from-nodes : (row : List ℕ) → From row 0 (nodes row)
 unfolding nodes
 from-nodes row = from-table row (length row) 0 (nodeAt row) (λ j l. ap (nodeAt row) (omega arith)) (omega arith)
 

@@ -1,15 +1,15 @@
 -- Bits that are laid one after the other are laid as one list, and a whole sheet's bits are its bytes at the start of the buffer.
 use mathlib.Core.Path.{_≡_, refl, sym, ap, ap₂, _∙_}
 use mathlib.Core.List.{List, [], _∷_, _++_, append-assoc, append-nil}
-use Prim.Native.Nat.{ℕ, zero, suc, _+_, _-_, _*_, _/_, _^_, _≤_, _<_}
+use Prim.Native.Nat.{ℕ, zero, suc, _+_, _*_, _≤_, _<_}
 use native.Mathlib.Nat.{add-zero, add-assoc, zero-add, not-suc-le-zero, le-of-suc-le-suc}
 use native.Mathlib.Omega.{arith}
-use lib.ListN.{length, getD, take, drop, length-append, length-drop, take-append-drop}
-use lib.Seq.{take-at, drop-at, drop-drop, drop-append-add, take-all, length-take-le, take-length}
-use Rattle.rules.specs.Bits.{digits, bits, bytes, pack, Below, nil, cons}
+use lib.ListN.{length, getD, take, drop, length-append, take-append-drop}
+use lib.Seq.{take-at, drop-at, drop-drop, take-all, length-take-le}
+use Rattle.rules.specs.Bits.{digits, bits, bytes, Below, nil}
 use Rattle.rules.specs.Sheet.{Entry, entry, entryBits, sheetBits, size, padding}
 use Rattle.rules.specs.Answers.{written}
-use Rattle.rules.proofs.Fields.{length-digits, length-pack, digits-join, pack-append, drop-pack, below-digits, below-append, below-drop, below-bytes, below-at, bits-bytes, bytes-bits, length-bytes}
+use Rattle.rules.proofs.Fields.{length-digits, length-pack, digits-join, pack-append, drop-pack, below-digits, below-append, below-drop, below-bytes, bits-bytes, bytes-bits, length-bytes}
 use Rattle.bits.specs.Access.{Put}
 use Rattle.writer.specs.Entered.{zipped, headBits, Writing, over, Laid}
 

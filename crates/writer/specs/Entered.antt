@@ -1,7 +1,7 @@
 -- Kind fields and places as a sheet's entries, and what writing them asks and gives.
 use mathlib.Core.Path.{_≡_}
 use mathlib.Core.List.{List, [], _∷_, _++_}
-use Prim.Native.Nat.{ℕ, _+_, _*_, _≤_, _<_}
+use Prim.Native.Nat.{ℕ, _+_, _*_, _≤_}
 use lib.ListN.{length, take, drop}
 use Rattle.rules.specs.Bits.{digits, bits, Below}
 use Rattle.rules.specs.Sheet.{Entry, entry, size}

@@ -1,5 +1,4 @@
 -- `writer::write_entries` meets its contract. The loop's invariant: the entries passed are laid behind the head. Assumes nothing.
-use mathlib.Core.Path.{_≡_, sym, ap, _∙_}
 use mathlib.Core.List.{_++_}
 use Prim.Native.Nat.{ℕ, _+_, _-_, _*_, _≤_}
 use native.Mathlib.Numerals.{add-one}

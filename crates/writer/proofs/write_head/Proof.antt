@@ -1,5 +1,5 @@
 -- `writer::write_head` meets its contract: the three fields are the digits of one number, by `head-digits`. Assumes nothing.
-use Prim.Native.Nat.{ℕ, _+_, _*_}
+use Prim.Native.Nat.{_+_, _*_}
 use native.Mathlib.Omega.{arith}
 use Rattle.writer.proofs.Laying.{put-laid, head-digits}
 use borrow.Author.Needs.{needs}

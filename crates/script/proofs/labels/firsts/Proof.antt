@@ -1,9 +1,7 @@
 -- `script::labels::firsts` meets its contract. The loop's invariant: the table holds the first nodes among those passed. Assumes nothing.
-use mathlib.Core.Path.{_≡_, refl, ap, _∙_}
-use Prim.Native.Nat.{ℕ, suc, _-_, _≤_, _<_}
-use native.Mathlib.Numerals.{add-one}
+use mathlib.Core.Path.{_≡_}
+use Prim.Native.Nat.{ℕ, suc, _-_, _≤_}
 use native.Mathlib.Omega.{arith}
-use borrow.Author.Needs.{needs}
 use lib.ListN.{length, replicate, length-replicate}
 use Rattle.script.specs.Tabled.{Firsts}
 use Rattle.script.proofs.Noting.{firsts-none, firsts-more}
