@@ -20,6 +20,9 @@ use Rattle.script.specs.Tabled.{noted, Firsts, Lasts, Tabled}
 
 -- ---- a node writes its number
 
+other-node : (row : List ℕ) (i j : ℕ) → (getD row j 0 ≡ getD row i 0 → ⊥) → j ≡ i → ⊥
+other-node row i j n e = n (ap (λ (k : ℕ). getD row k 0) e)
+
 module _ (row table : List ℕ) (i : ℕ) (cells : length table ≡ 256) (label : getD row i 0 < 256) where
   noted-own : (j : ℕ) → getD row j 0 ≡ getD row i 0 → noted row (set table (getD row i 0) i) j ≡ i
   noted-own j e = rw e (getD-set-same table (getD row i 0) i 0 (omega arith))
@@ -40,11 +43,7 @@ firsts-more row table i label f =
     }
   where
     on : (j : ℕ) → i ≤ j → (getD row j 0 ≡ getD row i 0 → ⊥) → suc i ≤ j
-    on j a n = go (ℕ-discrete j i)
-      where
-        go : Dec (j ≡ i) → suc i ≤ j
-        go (yes e) = absurd (n (ap (λ (k : ℕ). getD row k 0) e))
-        go (no d) = omega arith
+    on j a n = omega (arith, other-node row i j n)
 
     from : (j : ℕ) → i ≤ j → j < length row → Dec (getD row j 0 ≡ getD row i 0) → noted row (set table (getD row i 0) i) j ≤ j
     from j a b (yes e) = omega (arith, noted-own row table i (f .cells) label j e)
@@ -79,11 +78,7 @@ lasts-more row table i label l =
     }
   where
     passed : (j : ℕ) → j < suc i → (getD row j 0 ≡ getD row i 0 → ⊥) → j < i
-    passed j a n = go (ℕ-discrete j i)
-      where
-        go : Dec (j ≡ i) → j < i
-        go (yes e) = absurd (n (ap (λ (k : ℕ). getD row k 0) e))
-        go (no d) = omega arith
+    passed j a n = omega (arith, other-node row i j n)
 
     upto : (j : ℕ) → j < suc i → Dec (getD row j 0 ≡ getD row i 0) → j ≤ noted row (set table (getD row i 0) i) j
     upto j a (yes e) = omega (arith, noted-own row table i (l .cells) label j e)
@@ -140,13 +135,14 @@ module _ (row first last : List ℕ) (t : Tabled row first last) (i : ℕ) (h : 
 
 -- ---- the first lone node
 
+-- a test does not both pass and fail
+pub apart : (b : Bool) → b ≡ true → b ≡ false → ⊥
+apart b p q = let z : _≡_ {A = ℕ} 0 1 = cc in omega arith
+
 -- a number at which the test holds, if it is below the bound, and before which it fails, is the least
 pub least-is : (f : ℕ → Bool) (n i : ℕ) → i ≤ n → (i < n → f i ≡ true) → ((j : ℕ) → j < i → f j ≡ false) → least f n ≡ i
 least-is f n i h yep nope = go (ℕ-discrete (least f n) i)
   where
-    apart : (b : Bool) → b ≡ true → b ≡ false → ⊥
-    apart b p q = let z : _≡_ {A = ℕ} 0 1 = cc in omega arith
-
     order : (least f n ≡ i → ⊥) → Dec (least f n < i) → ⊥
     order d (yes l) = apart (f (least f n)) (least-holds f n (omega arith)) (nope (least f n) l)
     order d (no l) = let b : i < least f n = omega arith in apart (f i) (yep (omega (arith, least-le f n))) (least-before f n i b)

@@ -13,7 +13,7 @@ use Rattle.rules.proofs.Lists.{length-put, length-cut}
 use Rattle.rules.proofs.Fits.{Fits}
 use Rattle.rules.proofs.Open.{onto}
 use Rattle.orders.specs.Plan.{Step, step, young, Tells, steps}
-use Rattle.script.proofs.Touched.{Kept, kept-none, kept-next, node-open, From, from-nodes}
+use Rattle.script.proofs.Touched.{Kept, kept-none, kept-next, node-open, E-begins-not, From, from-nodes}
 
 kindField : Step → ℕ
 kindField (step k a c) = k
@@ -31,7 +31,7 @@ module _ (row : List ℕ) (ku kl : ℕ) (six : ku + kl ≤ 6) where
   as-many i h (node B x) y o p q kept e f = omega (arith, length-put (p - 1) x o)
   as-many i h (node M x) y o p q kept e f = e
   as-many i h (node E x) y o p q kept e f =
-      let there = node-open row i h y kept E x (λ b. let z : _≡_ {A = ℕ} 0 1 = cc in omega arith) q in
+      let there = node-open row i h y kept E x E-begins-not q in
       omega (arith, length-cut (before x y) y there, length-cut (p - 1) o (omega (arith, f .low, f .high)))
 
   same-kinds : {i : ℕ} {ns : List Node} {y : List ℕ} {ss : List Step} → From row i ns → Kept row i y → Tells ns y ss

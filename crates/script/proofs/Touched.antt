@@ -17,7 +17,9 @@ use Rattle.rules.proofs.Pins.{at-before, home-le, label-home}
 use Rattle.rules.proofs.Lists.{length-cut}
 use Rattle.rules.proofs.Open.{one, one-same, one-other, times, times-cut, Ahead, ahead-later}
 use Rattle.orders.specs.Plan.{Step, step, young, age, Steps, Tells}
+use Rattle.script.proofs.Noting.{apart}
 
+-- what stands in a list is found in it
 times-found : (x : ℕ) (o : List ℕ) → 0 < times x o → before x o < length o
 unfolding times before pick one
 times-found x [] h = absurd (omega arith)
@@ -52,6 +54,7 @@ module _ (row : List ℕ) (i : ℕ) (h : i < length row) (o : List ℕ) (kept : 
   sooner : (j : ℕ) → Ahead row (suc i) j → Ahead row i j
   sooner j a = record { at = a .at; from = omega (arith, a .from); within = a .within; label = a .label }
 
+  -- one node on
   pub kept-next : Kept row (suc i) (young (nodeAt row i) o)
   unfolding nodeAt kindOf young times
   kept-next = go (eqb (home row i) i) (later row i) refl refl
@@ -73,9 +76,6 @@ module _ (row : List ℕ) (i : ℕ) (h : i < length row) (o : List ℕ) (kept : 
           let cutted = rw (at-before (home row i) o kl) at (times-cut (home row j) k o kl) in
           omega (arith, cutted, one-other (home row j) (home row i) other, kept j passed (sooner j a))
         where
-          apart : (b : Bool) → b ≡ true → b ≡ false → ⊥
-          apart b p q = let z : _≡_ {A = ℕ} 0 1 = cc in omega arith
-
           other : home row i ≡ home row j → ⊥
           other e =
               apart (later row i)
@@ -89,13 +89,11 @@ module _ (row : List ℕ) (i : ℕ) (h : i < length row) (o : List ℕ) (kept : 
               el
 
           passed : j < i
-          passed = go′ (ℕ-discrete j i)
-            where
-              go′ : Dec (j ≡ i) → j < i
-              go′ (yes e) = absurd (other (ap (home row) (sym e)))
-              go′ (no n) = omega arith
+          passed =
+              let apart-of : j ≡ i → ⊥ = λ e. other (ap (home row) (sym e)) in
+              omega arith
 
-  -- .. as the node says
+  -- the same, of the node
   pub node-open : (k : Kind) (x : ℕ) → (k ≡ B → ⊥) → node k x ≡ nodeAt row i → before x o < length o
   unfolding nodeAt kindOf
   node-open k x n = go (eqb (home row i) i) refl
@@ -103,6 +101,12 @@ module _ (row : List ℕ) (i : ℕ) (h : i < length row) (o : List ℕ) (kept : 
       go : (f : Bool) → eqb (home row i) i ≡ f → node k x ≡ node (kindOf f (later row i)) (home row i) → before x o < length o
       go true ef e = let b : k ≡ B = cc in absurd (n b)
       go false ef e = let q : x ≡ home row i = cc in rw q (touched-open ef)
+
+pub M-begins-not : M ≡ B → ⊥
+M-begins-not q = let z : _≡_ {A = ℕ} 0 1 = cc in omega arith
+
+pub E-begins-not : E ≡ B → ⊥
+E-begins-not q = let z : _≡_ {A = ℕ} 0 1 = cc in omega arith
 
 -- ---- the nodes of a row from node i on
 
@@ -135,17 +139,11 @@ follow row (cons {i} {n} h e r) kept few (Tells.more {o = o} {ss = ss} room t) =
         → Steps (length o) (step (code (kind n)) (age n o) (length o) ∷ ss)
     go (node B x) e room rest = Steps.begins (room refl) (rest (room refl))
     go (node M x) e room rest =
-        Steps.meet {k = 1} {a = before x o} {b = length o} (omega arith) (omega arith) (node-open row i h o kept M x (λ q. never q) e) few (rest few)
-      where
-        never : M ≡ B → ⊥
-        never q = let z : _≡_ {A = ℕ} 0 1 = cc in omega arith
+        Steps.meet {k = 1} {a = before x o} {b = length o} (omega arith) (omega arith) (node-open row i h o kept M x M-begins-not e) few (rest few)
     go (node E x) e room rest =
-        let there : before x o < length o = node-open row i h o kept E x (λ q. never q) e in
+        let there : before x o < length o = node-open row i h o kept E x E-begins-not e in
         let less : length (cut (before x o) o) ≡ length o - 1 = omega (arith, length-cut (before x o) o there) in
         Steps.meet {k = 2} {a = before x o} {b = length o} (omega arith) (omega arith) there few (rw less at (rest (omega arith)))
-      where
-        never : E ≡ B → ⊥
-        never q = let z : _≡_ {A = ℕ} 0 1 = cc in omega arith
 
 -- steps that tell a row's nodes are steps that the passes can follow
 pub tells-steps : (row : List ℕ) (ss : List Step) → Tells (nodes row) [] ss → Steps 0 ss
