@@ -42,13 +42,22 @@ add-put-bits : tie.Need-add-put-bits Inv-loop μ-loop
 add-put-bits c = omega arith
 
 mul-put-bits-2 : tie.Need-mul-put-bits-2 Inv-loop μ-loop
-mul-put-bits-2 c = omega (arith, below-at (c .before .before .before .before .before .before .before .before .pre .kind) (c .before .before .before .before .loop .i) 0 (omega arith))
+mul-put-bits-2 c =
+    let w = c .before .before .before .before .before .before .before .before .pre in
+    let i = c .before .before .before .before .loop .i in
+    omega (arith, below-at (w .kind) i 0 (omega arith), below-at (w .place) i 0 (omega arith))
 
 add-put-bits-2 : tie.Need-add-put-bits-2 Inv-loop μ-loop
-add-put-bits-2 c = omega (arith, below-at (c .before .before .before .before .before .before .before .before .pre .kind) (c .before .before .before .before .loop .i) 0 (omega arith), below-at (c .before .before .before .before .before .before .before .before .pre .place) (c .before .before .before .before .loop .i) 0 (omega arith))
+add-put-bits-2 c =
+    let w = c .before .before .before .before .before .before .before .before .pre in
+    let i = c .before .before .before .before .loop .i in
+    omega (arith, below-at (w .kind) i 0 (omega arith), below-at (w .place) i 0 (omega arith))
 
 put-bits-requires : tie.Need-put-bits-requires Inv-loop μ-loop
-put-bits-requires c κs = omega (arith, c .before .before .before .before .loop .inv .1 .kept, below-at (c .before .before .before .before .before .before .before .before .pre .kind) (c .before .before .before .before .loop .i) 0 (omega arith), below-at (c .before .before .before .before .before .before .before .before .pre .place) (c .before .before .before .before .loop .i) 0 (omega arith))
+put-bits-requires c κs =
+    let w = c .before .before .before .before .before .before .before .before .pre in
+    let i = c .before .before .before .before .loop .i in
+    omega (arith, c .before .before .before .before .loop .inv .1 .kept, below-at (w .kind) i 0 (omega arith), below-at (w .place) i 0 (omega arith))
 
 add-i : tie.Need-add-i Inv-loop μ-loop
 add-i c = omega arith
