@@ -1,64 +1,21 @@
--- Nets under other names: what is put, cut, found, aged and stepped with one name of each net is so with the other.
-use mathlib.Core.Path.{_≡_, refl, sym, ap, _∙_}
-use mathlib.Core.Bool.{Bool, true, false}
-use mathlib.Core.List.{List, [], _∷_, map}
-use Prim.Native.Nat.{ℕ, zero, suc, _-_, _<_}
-use native.Mathlib.Omega.{arith}
-use lib.ListN.{length, getD}
-use lib.Dec.{eqb}
-use borrow.Author.Tests.{eqb-true, eqb-false, eq-eqb, ne-eqb}
-use Rattle.rules.specs.Basic.{pick, put, cut}
+-- Nets under other names: a net has the age, and leaves the young ones, that it has and leaves under its own name.
+use mathlib.Core.Path.{_≡_, refl, ap, _∙_}
+use mathlib.Core.List.{List, map}
+use Prim.Native.Nat.{ℕ}
+use Rattle.rules.specs.Basic.{cut}
 use Rattle.rules.specs.Row.{before, Kind, B, M, E, node}
-use Rattle.rules.specs.Street.{next}
-use Rattle.rules.proofs.Pins.{at-before}
+use Rattle.rules.proofs.Renamed.{cut-map, before-map, Only}
 use Rattle.orders.specs.Plan.{young, age}
 
-module _ {ℓ} {A C : Type ℓ} (f : A → C) where
-  pub put-map : (k : ℕ) (x : A) (l : List A) → put k (f x) (map f l) ≡ map f (put k x l)
-  unfolding put
-  put-map zero x l = refl
-  put-map (suc k) x [] = refl
-  put-map (suc k) x (y ∷ l) = ap {B = List C} (λ r. f y ∷ r) (put-map k x l)
-
-  pub cut-map : (k : ℕ) (l : List A) → cut k (map f l) ≡ map f (cut k l)
-  unfolding cut
-  cut-map k [] = refl
-  cut-map zero (y ∷ l) = refl
-  cut-map (suc k) (y ∷ l) = ap {B = List C} (λ r. f y ∷ r) (cut-map k l)
-
--- no other net gets the name of x
-abbrev pub Only : (ℕ → ℕ) → ℕ → Type 0
-Only f x = (y : ℕ) → f y ≡ f x → y ≡ x
-
 module _ (f : ℕ → ℕ) (x : ℕ) (only : Only f x) where
-  pub before-map : (l : List ℕ) → before (f x) (map f l) ≡ before x l
-  unfolding before pick
-  before-map [] = refl
-  before-map (y ∷ l) = go (eqb y x) refl (before-map l)
-    where
-      go : (t : Bool) → eqb y x ≡ t → before (f x) (map f l) ≡ before x l → pick (eqb (f y) (f x)) 0 (suc (before (f x) (map f l))) ≡ pick t 0 (suc (before x l))
-      go true e ih = rw (eq-eqb (f y) (f x) (ap f (eqb-true y x e)))
-      go false e ih = rw (ne-eqb (f y) (f x) (λ q. eqb-false y x e (only y q)), ih)
-
   pub age-map : (k : Kind) (l : List ℕ) → age (node k (f x)) (map f l) ≡ age (node k x) l
   unfolding age
   age-map B l = refl
-  age-map M l = before-map l
-  age-map E l = before-map l
+  age-map M l = before-map f x only l
+  age-map E l = before-map f x only l
 
   pub young-map : (k : Kind) (l : List ℕ) → young (node k (f x)) (map f l) ≡ map f (young (node k x) l)
   unfolding young
   young-map B l = refl
   young-map M l = refl
-  young-map E l = ap (λ (j : ℕ). cut j (map f l)) (before-map l) ∙ cut-map f (before x l) l
-
-  pub next-map : (k : Kind) (o : List ℕ) (p : ℕ) → next (node k (f x)) (map f o) p ≡ map f (next (node k x) o p)
-  unfolding next
-  next-map B o p = put-map f (p - 1) x o
-  next-map M o p = refl
-  next-map E o p = cut-map f (p - 1) o
-
--- a label that occurs is the only one with its first node
-pub home-only : (row : List ℕ) (x : ℕ) → before x row < length row → Only (λ y. before y row) x
-home-only row x h y e =
-    sym (at-before y row (omega arith)) ∙ ap (λ (k : ℕ). getD row k 0) e ∙ at-before x row h
+  young-map E l = ap (λ (j : ℕ). cut j (map f l)) (before-map f x only l) ∙ cut-map f (before x l) l

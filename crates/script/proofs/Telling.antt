@@ -24,7 +24,8 @@ use Rattle.orders.specs.Plan.{Step, step, young, age, Tells, steps}
 use Rattle.script.specs.Tabled.{noted, Tabled}
 use Rattle.script.specs.Told.{Turning, Turned, Told}
 use Rattle.script.proofs.Noting.{begins-here, later-not-last}
-use Rattle.script.proofs.Renaming.{home-only, before-map, age-map, young-map}
+use Rattle.rules.proofs.Renamed.{home-only, before-map}
+use Rattle.script.proofs.Renaming.{age-map, young-map}
 use Rattle.script.proofs.Touched.{Kept, kept-none, kept-next, node-open}
 
 -- ---- nodes one by one
