@@ -1,1 +1,2 @@
 pub mod Bridge
+pub mod Walking
