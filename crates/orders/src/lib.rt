@@ -1,2 +1,3 @@
 // Sets of orders, as marks on ranks in lent bytes, and the passes of the router over them.
 pub mod rank;
+pub mod set;
