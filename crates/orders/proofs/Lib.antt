@@ -4,3 +4,7 @@ pub mod Bits
 pub mod Gains
 pub mod Ways
 pub mod Spreading
+pub mod Nodes
+pub mod Filling
+pub mod Pruning
+pub mod Picking

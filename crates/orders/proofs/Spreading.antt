@@ -10,11 +10,11 @@ use lib.Dec.{eqb, ltb}
 use borrow.Author.Tests.{eqb-true, eqb-false, ltb-true, ltb-false}
 use Rattle.orders.specs.declared.rank.Stop.{Stop}
 use Rattle.orders.specs.Ranks.{fact}
-use Rattle.orders.specs.Sets.{ranks, marked, source, Set, Gains, Loses}
+use Rattle.orders.specs.Sets.{ranks, marked, source, Set, Gains}
 use Rattle.orders.specs.Stops.{hopAt, Sound}
-use Rattle.orders.specs.Passes.{positions, Leads, Reached, Onward, Misses}
+use Rattle.orders.specs.Passes.{positions, Leads, Reached, Misses}
 use Rattle.orders.proofs.Hops.{stop-lands, none-some, same-some}
-use Rattle.orders.proofs.Gains.{gains-none, gains-map, gains-one, gains-join, gains-source, loses-none, loses-map, loses-one, loses-join}
+use Rattle.orders.proofs.Gains.{gains-none, gains-map, gains-one, gains-join, gains-source}
 
 -- a number below k + 1 is k or below it
 pub last-or : (P : Type 0) (q k : ℕ) → q < k + 1 → (q ≡ k → P) → (q < k → P) → P

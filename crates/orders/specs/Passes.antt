@@ -37,6 +37,7 @@ pub record Reached (t : Stop) (s : List ℕ) (g x : ℕ) : Type 0 where
 -- the stop leads from rank x to a marked rank of gap g
 pub record Onward (t : Stop) (s : List ℕ) (g x : ℕ) : Type 0 where
   pub next : ℕ
+  pub within : next < ranks
   pub leads : Leads t x next
   pub kept : marked s g next ≡ true
 

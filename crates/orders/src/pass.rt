@@ -84,8 +84,28 @@ pub fn pick(work: &[u8], kinds: &[u8], ages: &[u8], counts: &[u8], ku: u8, kl: u
     requires { ⌜ length (now kinds) ≤ 512 ⌝ }
     ensures { λ a. ⌜ Picked ku kl (steps (now (kinds .entry)) (now (ages .entry)) (now (counts .entry))) a ⌝ }
 {
+    let ps = [0u8; 512];
+    pick_into(Positions { ps }, work, kinds, ages, counts, ku, kl)
+}
+
+// The same, written over the positions that are given.
+fn pick_into(
+    old: Positions,
+    work: &[u8],
+    kinds: &[u8],
+    ages: &[u8],
+    counts: &[u8],
+    ku: u8,
+    kl: u8,
+) -> Positions
+    requires { ⌜ Given (now kinds) (now ages) (now counts) (now work) ku kl ⌝ }
+    requires { ⌜ Kept ku kl (steps (now kinds) (now ages) (now counts)) (now work) ⌝ }
+    requires { ⌜ Passes ku kl (steps (now kinds) (now ages) (now counts)) ⌝ }
+    requires { ⌜ (length (now kinds) ≤ 512) × (length (old .ps) ≡ 512) ⌝ }
+    ensures { λ a. ⌜ Picked ku kl (steps (now (kinds .entry)) (now (ages .entry)) (now (counts .entry))) a ⌝ }
+{
     let n = kinds.len();
-    let mut ps = [0u8; 512];
+    let mut ps = old.ps;
     let mut r: usize = 0;
     let mut i = 0;
     while i < n {
