@@ -49,7 +49,7 @@ module _ (ku kl : ℕ) where
               let v : hops ku kl ss x us ≡ some y = rw (same-some e j) k in
               same qs us q w m (f .others us y v)
           go q us z w i k false true eb ec = absurd (n q z (ltb-true q p ec) i (record { ps = us; end = y; runs = k }))
-          go q us z w i k false false eb ec = inr (rw w (here {q = q} (omega (arith, eqb-false q p eb, ltb-false q p ec))))
+          go q us z w i k false false eb ec = inr (rw w (here {p = p} {q = q} (omega (arith, eqb-false q p eb, ltb-false q p ec))))
 
 -- after i nodes: a way leads to rank r and on from there, and the first positions from there complete the first of all
 pub record Picks (ks xs cs : List ℕ) (ku kl : ℕ) (ps : List ℕ) (i r : ℕ) : Type 0 where

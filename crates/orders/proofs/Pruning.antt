@@ -91,13 +91,13 @@ module _ (ks xs cs : List ℕ) (ku kl : ℕ) (s₀ : List ℕ) (given : Given ks
       }
 
   -- the rank of a mark is one of the nets that the next node finds open
-  pub mark-below : (i g : ℕ) (s : List ℕ) → i ≡ suc (suc g) → Prunes ks xs cs ku kl s₀ i s → (x : ℕ) → x < ranks → marked s g x ≡ true → x < fact (getD cs (suc g) 0)
-  mark-below i g s e f x h m =
+  below-next : (i g : ℕ) (s : List ℕ) → i ≡ suc (suc g) → Prunes ks xs cs ku kl s₀ i s → (x : ℕ) → x < ranks → marked s g x ≡ true → x < fact (getD cs (suc g) 0)
+  below-next i g s e f x h m =
       let w = fills .sound g x (omega (arith, f .node)) h (sym (f .early g x (omega arith) h) ∙ m) in
       stop-ready ks xs cs ku kl (suc g) (omega (arith, f .node)) s₀ x given w .1
 
-  pub prunes-step : (i g : ℕ) (s t : List ℕ) → i ≡ suc (suc g) → Prunes ks xs cs ku kl s₀ i s → Loses s g (Onward (stopOf ks xs cs ku kl (suc g)) s (suc g)) t → Prunes ks xs cs ku kl s₀ (suc g) t
-  prunes-step i g s t e f a =
+  prunes-next : (i g : ℕ) (s t : List ℕ) → i ≡ suc (suc g) → Prunes ks xs cs ku kl s₀ i s → Loses s g (Onward (stopOf ks xs cs ku kl (suc g)) s (suc g)) t → Prunes ks xs cs ku kl s₀ (suc g) t
+  prunes-next i g s t e f a =
       record {
         long = a .long ∙ f .long;
         node = omega (arith, f .node);
@@ -131,6 +131,14 @@ module _ (ks xs cs : List ℕ) (ku kl : ℕ) (s₀ : List ℕ) (given : Given ks
           let m = rank-below ks xs cs ku kl (suc (suc g)) s₀ y given w in
           a .full x n (same x n ∙ k)
           (record { next = y; within = m; leads = h; kept = f .full (suc g) y (omega arith) next m (fills .full (suc g) y next w) c })
+
+  -- with node h, between gaps g and h
+  module _ (i h g : ℕ) (s : List ℕ) (ei : i ≡ suc h) (eh : h ≡ suc g) (f : Prunes ks xs cs ku kl s₀ i s) where
+    pub mark-below : (x : ℕ) → x < ranks → marked s g x ≡ true → x < fact (getD cs h 0)
+    mark-below x l m = rw eh (below-next i g s (ei ∙ ap suc eh) f x l m)
+
+    pub prunes-step : (t : List ℕ) → Loses s g (Onward (stopOf ks xs cs ku kl h) s (suc g)) t → Prunes ks xs cs ku kl s₀ h t
+    prunes-step t a = rw eh (prunes-next i g s t (ei ∙ ap suc eh) f (rw eh at a))
 
   pub prunes-end : (i : ℕ) (s : List ℕ) → i ≤ 1 → Prunes ks xs cs ku kl s₀ i s → Pruned ku kl ss s₀ s
   prunes-end i s l f =

@@ -1,58 +1,73 @@
+-- `orders::pass::prune` meets its contract. The loop's invariant: the gaps from that before node i on are pruned.
+use mathlib.Core.Path.{_≡_, _∙_}
+use Prim.Native.Nat.{suc, _-_}
+use native.Mathlib.Omega.{arith}
+use Rattle.orders.proofs.Pruning.{Prunes, prunes-start, mark-below, prunes-step, prunes-end}
+use Rattle.orders.proofs.Nodes.{stop-sound}
 use Rattle.orders.proofs.pass.prune.Statement.{statement}
 use Rattle.orders.proofs.pass.prune.Tie as tie
-use Rattle.orders.proofs.pass.prune.Reads as reads
-use Rattle.orders.proofs.pass.prune.Lts as lts
-use Rattle.orders.proofs.pass.prune_set.Reads as prune-set-reads
 
 abbrev Inv-loop : tie.InvT-loop
-Inv-loop work₀ kinds ages counts ku kl i₀ work i = ?
+Inv-loop work₀ kinds ages counts ku kl i₀ work i = Prunes kinds ages counts ku kl work₀ i work
 
 abbrev μ-loop : tie.MeasureT-loop
-μ-loop work₀ kinds ages counts ku kl i₀ work i = ?
+μ-loop work₀ kinds ages counts ku kl i₀ work i = i
 
--- src/pass.rt:65:5
 loop-holds : tie.Need-loop-holds Inv-loop μ-loop
-loop-holds c = ?
+loop-holds c =
+    let g = c .before .before .before .before in
+    let a = g .args in
+    prunes-start (a .kinds .now) (a .ages .now) (a .counts .now) (a .ku) (a .kl) (a .work .now) (g .pre .0) (g .pre .1 .0)
 
--- src/pass.rt:66:18
 sub-at : tie.Need-sub-at Inv-loop μ-loop
-sub-at c = ?
+sub-at c = omega arith
 
--- src/pass.rt:68:19
 shared-slice-read-t12 : tie.Need-shared-slice-read-t12 Inv-loop μ-loop
-shared-slice-read-t12 c = ?
+shared-slice-read-t12 c = omega (arith, c .before .before .loop .inv .node, c .before .loop-test .taken)
 
--- src/pass.rt:69:18
 shared-slice-read-t14 : tie.Need-shared-slice-read-t14 Inv-loop μ-loop
-shared-slice-read-t14 c = ?
+shared-slice-read-t14 c = omega (arith, c .before .before .before .before .before .before .before .before .pre .0 .aged, c .before .before .before .loop .inv .node, c .before .before .loop-test .taken)
 
--- src/pass.rt:70:20
 shared-slice-read-t16 : tie.Need-shared-slice-read-t16 Inv-loop μ-loop
-shared-slice-read-t16 c = ?
+shared-slice-read-t16 c = omega (arith, c .before .before .before .before .before .before .before .before .before .pre .0 .counted, c .before .before .before .before .loop .inv .node, c .before .before .before .loop-test .taken)
 
--- src/pass.rt:74:25
 sub-prune-set : tie.Need-sub-prune-set Inv-loop μ-loop
-sub-prune-set c = ?
+sub-prune-set c = omega (arith, c .before .before .before .before .loop-test .taken)
 
--- src/pass.rt:74:9
 prune-set-requires : tie.Need-prune-set-requires Inv-loop μ-loop
-prune-set-requires c κs = ?
+prune-set-requires c κs =
+    let g = c .before .before .before .before .before .before .before .before .before .before in
+    let a = g .args in
+    let l = c .before .before .before .before .before .loop in
+    let t = c .before .before .before .before .loop-test .taken in
+    let ei : l .i ≡ suc (l .i - 1) = omega (arith, t) in
+    let eh : l .i - 1 ≡ suc (l .i - 1 - 1) = omega (arith, t) in (
+      (stop-sound (a .kinds .now) (a .ages .now) (a .counts .now) (a .ku) (a .kl) (l .i - 1) (a .work .now) (omega (arith, l .inv .node, t)) (g .pre .0) (g .pre .1 .1), omega (arith, g .pre .0 .room, l .inv .long, l .inv .node)),
+      mark-below (a .kinds .now) (a .ages .now) (a .counts .now) (a .ku) (a .kl) (a .work .now) (g .pre .0) (g .pre .1 .0) (l .i) (l .i - 1) (l .i - 1 - 1) (l .work) ei eh (l .inv),
+    )
 
--- src/pass.rt:65:5
 loop-less : tie.Need-loop-less Inv-loop μ-loop
-loop-less c = ?
+loop-less c = omega (arith, c .before .before .before .before .before .before .before .loop-test .taken)
 
--- src/pass.rt:65:5
 loop-again : tie.Need-loop-again Inv-loop μ-loop
-loop-again c = ?
+loop-again c =
+    let g = c .before .before .before .before .before .before .before .before .before .before .before .before .before in
+    let a = g .args in
+    let l = c .before .before .before .before .before .before .before .before .loop in
+    let t = c .before .before .before .before .before .before .before .loop-test .taken in
+    let ei : l .i ≡ suc (l .i - 1) = omega (arith, t) in
+    let eh : l .i - 1 ≡ suc (l .i - 1 - 1) = omega (arith, t) in
+    prunes-step (a .kinds .now) (a .ages .now) (a .counts .now) (a .ku) (a .kl) (a .work .now) (g .pre .0) (g .pre .1 .0) (l .i) (l .i - 1) (l .i - 1 - 1) (l .work) ei eh (l .inv) (c .before .before .prune-set .last .0) (c .before .before .prune-set .ensures)
 
--- src/pass.rt:58:1
 same-length : tie.Need-same-length Inv-loop μ-loop
-same-length c = ?
+same-length c = c .before .loop .inv .long
 
--- src/pass.rt:58:1
 returns : tie.Need-returns Inv-loop μ-loop
-returns c = ?
+returns c =
+    let g = c .before .before .before .before .before .before in
+    let a = g .args in
+    let l = c .before .loop in
+    prunes-end (a .kinds .now) (a .ages .now) (a .counts .now) (a .ku) (a .kl) (a .work .now) (g .pre .0) (g .pre .1 .0) (l .i) (l .work) (c .loop-test .left) (l .inv)
 
 pub prune-spec : {M : Type 1} → statement M
 prune-spec =
