@@ -1,11 +1,7 @@
 // The last pass: the row once more with an order of labels, which gives each touched net's place.
+use orders::pass::Positions;
 use street::Order;
 ghost use Rattle.router.specs.Walk.{Placeable, Standing, Stood, Found};
-
-// A place for each node that a row can have, counted from 0. Cells past the row's nodes are free.
-pub struct Places {
-    pub ps: [u8; 512],
-}
 
 // Where the net of a node stands, and the order after the node.
 struct Turn {
@@ -14,7 +10,7 @@ struct Turn {
 }
 
 // The places of all nodes, from those chosen at the nodes where a net begins.
-pub fn walk(row: &[u8], kinds: &[u8], chosen: &[u8]) -> Places
+pub fn walk(row: &[u8], kinds: &[u8], chosen: &[u8]) -> Positions
     requires { ⌜ Placeable (now row) (now kinds) (now chosen) ⌝ }
     ensures { λ r. ⌜ Found (now (chosen .entry)) (r .ps) ⌝ }
 {
@@ -27,7 +23,7 @@ pub fn walk(row: &[u8], kinds: &[u8], chosen: &[u8]) -> Places
         held = turn.held;
         i += 1;
     }
-    Places { ps }
+    Positions { ps }
 }
 
 // One node: a new net goes to the place chosen for it, another stands where the order has it.

@@ -210,11 +210,11 @@ pub count-within : (n : ℕ) → wrongCount n ≡ false → (2 ≤ n) × (n ≤ 
 unfolding wrongCount
 count-within n e = let c = or-false (ltb n 2) (ltb 512 n) e in (ltb-false n 2 (c .0), ltb-false 512 n (c .1))
 
-within-count : (n : ℕ) → 2 ≤ n → n ≤ 512 → wrongCount n ≡ false
+pub within-count : (n : ℕ) → 2 ≤ n → n ≤ 512 → wrongCount n ≡ false
 unfolding wrongCount
 within-count n a b = rw (le-ltb n 2 a, le-ltb 512 n b)
 
-le-takes : (ku kl : ℕ) → ku ≤ 3 → kl ≤ 3 → takes ku kl ≡ true
+pub le-takes : (ku kl : ℕ) → ku ≤ 3 → kl ≤ 3 → takes ku kl ≡ true
 unfolding takes
 le-takes ku kl a b = rw (le-leb ku 3 a, le-leb kl 3 b)
 
