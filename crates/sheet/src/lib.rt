@@ -1,0 +1,2 @@
+// Sheets as every part reads them: judged, read back into a row, and compared with a row.
+pub mod inspect;
