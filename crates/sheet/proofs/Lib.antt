@@ -3,3 +3,7 @@ pub mod Tells
 pub mod Wires
 pub mod Scans
 pub mod Tails
+pub mod Touches
+pub mod Walks
+pub mod Fills
+pub mod Readings

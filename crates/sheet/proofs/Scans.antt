@@ -13,7 +13,7 @@ use Rattle.rules.specs.Row.{Kind, B, M, E}
 use Rattle.rules.specs.Sheet.{kindIn, Entry, entry, upperOf, lowerOf, countOf, entryAt, entriesOf}
 use Rattle.rules.specs.Judgement.{faultAt, left, scan, leftOpen, middle}
 use Rattle.rules.proofs.Pins.{length-tabulate, getD-tabulate}
-use Rattle.sheet.specs.Told.{leftAt}
+use Rattle.sheet.specs.Told.{kindAt}
 
 pub length-entries : (s : List ℕ) → length (entriesOf s) ≡ countOf s
 unfolding entriesOf
@@ -29,8 +29,8 @@ entries-from s i h =
 pub entries-end : (s : List ℕ) (i : ℕ) → i ≡ countOf s → drop i (entriesOf s) ≡ []
 entries-end s i e = rw (e ∙ sym (length-entries s)) (drop-length (entriesOf s))
 
-left-le : (b : ℕ) (e : Entry) → leftAt b e ≤ suc b
-unfolding leftAt left
+left-le : (b : ℕ) (e : Entry) → left (kindAt e) b ≤ suc b
+unfolding kindAt left
 left-le b (entry f a) = go (kindIn f)
   where
     go : (k : Kind) → left k b ≤ suc b
@@ -39,12 +39,12 @@ left-le b (entry f a) = go (kindIn f)
     go E = omega arith
 
 scan-cons : (ku kl i b : ℕ) (e : Entry) (es : List Entry)
-    → scan ku kl i b (e ∷ es) ≡ orElse (faultAt ku kl i b e) (scan ku kl (suc i) (leftAt b e) es)
-unfolding scan leftAt
+    → scan ku kl i b (e ∷ es) ≡ orElse (faultAt ku kl i b e) (scan ku kl (suc i) (left (kindAt e) b) es)
+unfolding scan kindAt
 scan-cons ku kl i b (entry f a) es = refl
 
-open-cons : (b : ℕ) (e : Entry) (es : List Entry) → leftOpen b (e ∷ es) ≡ leftOpen (leftAt b e) es
-unfolding leftOpen leftAt
+open-cons : (b : ℕ) (e : Entry) (es : List Entry) → leftOpen b (e ∷ es) ≡ leftOpen (left (kindAt e) b) es
+unfolding leftOpen kindAt
 open-cons b (entry f a) es = refl
 
 pub middle-is : (ku kl : ℕ) (s : List ℕ) → ku ≡ upperOf s → kl ≡ lowerOf s → middle s ≡ scan ku kl 1 0 (entriesOf s)
@@ -63,7 +63,7 @@ module _ (ku kl : ℕ) (s : List ℕ) where
   scan-start = record { within = omega arith; few = omega arith; same = refl; rest = refl }
 
   module _ (i b : ℕ) (h : i < countOf s) (m : Scanned ku kl s i b) where
-    here : orElse (faultAt ku kl (i + 1) b (entryAt s i)) (scan ku kl (suc (i + 1)) (leftAt b (entryAt s i)) (drop (suc i) (entriesOf s)))
+    here : orElse (faultAt ku kl (i + 1) b (entryAt s i)) (scan ku kl (suc (i + 1)) (left (kindAt (entryAt s i)) b) (drop (suc i) (entriesOf s)))
         ≡ scan ku kl 1 0 (entriesOf s)
     here =
         sym (scan-cons ku kl (i + 1) b (entryAt s i) (drop (suc i) (entriesOf s)))
@@ -74,7 +74,7 @@ module _ (ku kl : ℕ) (s : List ℕ) where
     unfolding orElse
     scan-fault p = sym here ∙ rw p
 
-    pub scan-step : {b′ : ℕ} → faultAt ku kl (i + 1) b (entryAt s i) ≡ none → leftAt b (entryAt s i) ≡ b′ → Scanned ku kl s (i + 1) b′
+    pub scan-step : {b′ : ℕ} → faultAt ku kl (i + 1) b (entryAt s i) ≡ none → left (kindAt (entryAt s i)) b ≡ b′ → Scanned ku kl s (i + 1) b′
     unfolding orElse
     scan-step {b′} p q =
         record {

@@ -21,7 +21,7 @@ use Rattle.rules.specs.Sheet.{kindIn, Entry, entry, entryAt}
 use Rattle.rules.specs.Judgement.{broken, faultAt, left}
 use Rattle.rules.proofs.Fields.{val-append, field-lt, length-pack}
 use Rattle.bits.specs.Access.{Got}
-use Rattle.sheet.specs.Told.{passed, wireFault, leftAt, InSheet}
+use Rattle.sheet.specs.Told.{passed, wireFault, kindAt, InSheet}
 
 module _ (ku kl i a b : ℕ) where
   pub wire-past : b ≤ a → wireFault ku kl i a b ≡ some (Position i)
@@ -34,16 +34,16 @@ module _ (ku kl i a b : ℕ) where
 
 module _ (ku kl i a b : ℕ) {f : ℕ} where
   -- what a node tells, by its kind field: a B opens a net, an E closes one
-  pub node-begins : f ≡ 0 → passed (faultAt ku kl i b (entry f a)) (leftAt b (entry f a)) ≡ passed (wireFault ku kl i a (b + 1)) (b + 1 - 0)
-  unfolding faultAt leftAt wireFault left counted kindIn keep orElse
+  pub node-begins : f ≡ 0 → passed (faultAt ku kl i b (entry f a)) (left (kindAt (entry f a)) b) ≡ passed (wireFault ku kl i a (b + 1)) (b + 1 - 0)
+  unfolding faultAt kindAt wireFault left counted kindIn keep orElse
   node-begins e = rw (e, add-one b, sub-zero (suc b))
 
-  pub node-goes-on : f ≡ 1 → passed (faultAt ku kl i b (entry f a)) (leftAt b (entry f a)) ≡ passed (wireFault ku kl i a b) (b - 0)
-  unfolding faultAt leftAt wireFault left counted kindIn keep orElse
+  pub node-goes-on : f ≡ 1 → passed (faultAt ku kl i b (entry f a)) (left (kindAt (entry f a)) b) ≡ passed (wireFault ku kl i a b) (b - 0)
+  unfolding faultAt kindAt wireFault left counted kindIn keep orElse
   node-goes-on e = rw (e, sub-zero b)
 
-  pub node-ends : f ≡ 2 → passed (faultAt ku kl i b (entry f a)) (leftAt b (entry f a)) ≡ passed (wireFault ku kl i a b) (b - 1)
-  unfolding faultAt leftAt wireFault left counted kindIn keep orElse
+  pub node-ends : f ≡ 2 → passed (faultAt ku kl i b (entry f a)) (left (kindAt (entry f a)) b) ≡ passed (wireFault ku kl i a b) (b - 1)
+  unfolding faultAt kindAt wireFault left counted kindIn keep orElse
   node-ends e = rw e
 
   pub node-unknown : f ≡ 3 → faultAt ku kl i b (entry f a) ≡ some (NoKind i)

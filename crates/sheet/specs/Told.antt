@@ -6,9 +6,10 @@ use lib.ListN.{length}
 use lib.Dec.{leb}
 use Rattle.rules.specs.declared.Fault.{Fault}
 use Rattle.rules.specs.Basic.{keep, orElse}
+use Rattle.rules.specs.Row.{Kind}
 use Rattle.rules.specs.Street.{limits}
 use Rattle.rules.specs.Sheet.{kindIn, Entry, entry}
-use Rattle.rules.specs.Judgement.{broken, left}
+use Rattle.rules.specs.Judgement.{broken}
 use Rattle.sheet.specs.declared.inspect.Inspected.{Inspected}
 use Rattle.sheet.specs.declared.inspect.Passed.{Passed}
 
@@ -26,9 +27,12 @@ passed (some e) b = Passed.Unfit e
 unfoldable pub wireFault : (ku kl i a b : ℕ) → Option Fault
 wireFault ku kl i a b = orElse (keep (leb b a) (Fault.Position i)) (broken (limits ku kl (suc a) b) i)
 
--- the nets open after an entry, where b were before it
-unfoldable pub leftAt : ℕ → Entry → ℕ
-leftAt b (entry f a) = left (kindIn f) b
+-- an entry's kind, and the nets above its own
+unfoldable pub kindAt : Entry → Kind
+kindAt (entry f a) = kindIn f
+
+unfoldable pub aboveAt : Entry → ℕ
+aboveAt (entry f a) = a
 
 -- node i, from 0, can stand in a sheet, and its entry lies in the bytes
 pub record InSheet (s : List ℕ) (i : ℕ) : Type 0 where

@@ -9,8 +9,8 @@ ghost use Prim.Native.Nat.{suc, _+_, _*_, _-_, _≤_, _<_};
 ghost use lib.ListN.{length};
 ghost use Rattle.rules.specs.Basic.{orElse};
 ghost use Rattle.rules.specs.Sheet.{countOf, upperOf, lowerOf, size, entryAt, entriesOf, paddingOf};
-ghost use Rattle.rules.specs.Judgement.{head, faultAt, middle, tail, leftOpen, judge};
-ghost use Rattle.sheet.specs.Told.{told, passed, wireFault, leftAt, InSheet};
+ghost use Rattle.rules.specs.Judgement.{head, faultAt, left, middle, tail, leftOpen, judge};
+ghost use Rattle.sheet.specs.Told.{told, passed, wireFault, kindAt, InSheet};
 
 // What the judgement of a sheet finds.
 pub enum Inspected {
@@ -98,7 +98,7 @@ fn judge_nodes(s: &[u8]) -> Passed
 // 15, 16, 17 at node i, from 0, before which b nets are open.
 fn judge_node(s: &[u8], ku: u8, kl: u8, i: usize, b: usize) -> Passed
     requires { ⌜ InSheet (now s) i × (b ≤ i) ⌝ }
-    ensures { λ r. ⌜ r ≡ passed (faultAt ku kl (i + 1) b (entryAt (now (s .entry)) i)) (leftAt b (entryAt (now (s .entry)) i)) ⌝ }
+    ensures { λ r. ⌜ r ≡ passed (faultAt ku kl (i + 1) b (entryAt (now (s .entry)) i)) (left (kindAt (entryAt (now (s .entry)) i)) b) ⌝ }
 {
     let fields = get_bits(s, 16 + 6 * i, 6);
     let above = (fields % 16) as usize;

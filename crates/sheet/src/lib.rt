@@ -1,2 +1,3 @@
 // Sheets as every part reads them: judged, read back into a row, and compared with a row.
 pub mod inspect;
+pub mod reader;

@@ -4,9 +4,9 @@ use Prim.Native.Nat.{ℕ, _+_, _/_, _%_}
 use native.Mathlib.Omega.{arith}
 use borrow.Author.Needs.{needs}
 use Rattle.rules.specs.Sheet.{Entry, entry, entryAt}
-use Rattle.rules.specs.Judgement.{faultAt}
+use Rattle.rules.specs.Judgement.{faultAt, left}
 use Rattle.sheet.specs.declared.inspect.Passed.{Passed}
-use Rattle.sheet.specs.Told.{passed, leftAt}
+use Rattle.sheet.specs.Told.{passed, kindAt}
 use Rattle.sheet.proofs.Wires.{node-begins, node-goes-on, node-ends, node-unknown, got-entry}
 use Rattle.sheet.proofs.Tells.{passed-fault}
 use Rattle.sheet.proofs.inspect.judge_node.Statement.{statement}
@@ -41,7 +41,7 @@ judge-wire-requires-3 c κs = search needs
 
 -- what the contract says of an entry
 abbrev says : (ku kl i b : ℕ) → Entry → Passed
-says ku kl i b e = passed (faultAt ku kl (i + 1) b e) (leftAt b e)
+says ku kl i b e = passed (faultAt ku kl (i + 1) b e) (left (kindAt e) b)
 
 returns : tie.Need-returns
 returns c =
@@ -71,7 +71,7 @@ returns-4 : tie.Need-returns-4
 returns-4 c =
     let a = c .before .before .before .args in
     let g = c .before .get-bits in
-    passed-fault (leftAt (a .b) (entry (g .result / 16) (g .result % 16))) (node-unknown (a .ku) (a .kl) (a .i + 1) (g .result % 16) (a .b) (omega (arith, g .ensures .low)))
+    passed-fault (left (kindAt (entry (g .result / 16) (g .result % 16))) (a .b)) (node-unknown (a .ku) (a .kl) (a .i + 1) (g .result % 16) (a .b) (omega (arith, g .ensures .low)))
     ∙ sym (ap (says (a .ku) (a .kl) (a .i) (a .b)) (got-entry (c .before .before .before .pre .0) (g .ensures)))
 
 pub judge-node-spec : {M : Type 1} → statement M

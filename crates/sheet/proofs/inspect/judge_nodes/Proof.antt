@@ -5,8 +5,8 @@ use Prim.Native.Nat.{ℕ, _+_, _-_}
 use native.Mathlib.Omega.{arith}
 use borrow.Author.Needs.{needs}
 use Rattle.rules.specs.Sheet.{entryAt, entriesOf}
-use Rattle.rules.specs.Judgement.{faultAt, leftOpen, middle}
-use Rattle.sheet.specs.Told.{passed, leftAt}
+use Rattle.rules.specs.Judgement.{faultAt, left, leftOpen, middle}
+use Rattle.sheet.specs.Told.{passed, kindAt}
 use Rattle.sheet.proofs.Heads.{headed, got-upper, got-lower, got-count, in-sheet}
 use Rattle.sheet.proofs.Scans.{Scanned, scan-start, scan-step, scan-fault, scan-end, middle-is}
 use Rattle.sheet.proofs.Tells.{passed-fault, passed-none, fault-passed, none-passed}
@@ -63,7 +63,7 @@ loop-again c =
     let l = c .before .before .before .before .before .loop in
     let n = got-count (c .before .before .before .before .before .before .get-bits3 .ensures) in
     let e = entryAt s (l .i) in
-    let r = none-passed (faultAt ku kl (l .i + 1) (l .b) e) (leftAt (l .b) e)
+    let r = none-passed (faultAt ku kl (l .i + 1) (l .b) e) (left (kindAt e) (l .b))
     (sym (c .before .before .before .judge-node .ensures) ∙ c .before .found .given .1) in
     scan-step ku kl s (l .i) (l .b) (omega arith) (l .inv) (r .0) (r .1)
 
@@ -78,7 +78,7 @@ returns c =
     let l = c .before .before .before .before .before .loop in
     let n = got-count (c .before .before .before .before .before .before .get-bits3 .ensures) in
     let e = entryAt s (l .i) in
-    let r = fault-passed (faultAt ku kl (l .i + 1) (l .b) e) (leftAt (l .b) e)
+    let r = fault-passed (faultAt ku kl (l .i + 1) (l .b) e) (left (kindAt e) (l .b))
     (sym (c .before .before .before .judge-node .ensures) ∙ c .before .found2 .given .1) in
     passed-fault (leftOpen 0 (entriesOf s))
     (middle-is ku kl s (got-upper (c .before .before .before .before .before .before .before .before .get-bits .ensures)) (got-lower (c .before .before .before .before .before .before .before .get-bits2 .ensures))

@@ -1,0 +1,125 @@
+-- `sheet::reader::write_row` meets its contract. The loop's invariant: the walk has come to node i (`Walked`), and the buffer is filled so
+-- far with the sheet's row. The measure is the number of nodes left. Assumes nothing.
+use mathlib.Core.Path.{_≡_, refl, sym, ap, _∙_}
+use mathlib.Core.List.{List}
+use Prim.Native.Nat.{ℕ, _-_, _≤_}
+use native.Mathlib.Omega.{arith}
+use borrow.Author.Needs.{needs}
+use lib.ListN.{length, set}
+use Rattle.rules.specs.Sheet.{countOf, rowOf}
+use Rattle.street.specs.declared.Order.{Order}
+use Rattle.sheet.proofs.Heads.{got-count, in-sheet}
+use Rattle.sheet.proofs.Walks.{sheetly, Walked, walk-start, walk-ready, walk-label, walk-step, length-row}
+use Rattle.sheet.proofs.Fills.{filled, fill-length, fill-step, fill-end}
+use Rattle.sheet.proofs.reader.write_row.Statement.{statement}
+use Rattle.sheet.proofs.reader.write_row.Tie as tie
+
+record Writing (s row₀ row : List ℕ) (i : ℕ) (o : Order) (n : ℕ) : Type 0 where
+  walk : Walked s i o n
+  row-so-far : row ≡ filled (rowOf s) row₀ i
+
+abbrev Inv-loop : tie.InvT-loop
+Inv-loop s row₀ n order₀ begun₀ i₀ row order begun i = Writing s row₀ row i order begun
+
+abbrev μ-loop : tie.MeasureT-loop
+μ-loop s row₀ n order₀ begun₀ i₀ row order begun i = n - i
+
+get-bits-requires : tie.Need-get-bits-requires Inv-loop μ-loop
+get-bits-requires c κs =
+    let s = c .before .before .args .s .now in
+    let h = sheetly s (c .before .before .pre .0) .heads in
+    omega arith
+
+cast-n : tie.Need-cast-n Inv-loop μ-loop
+cast-n c = search needs
+
+new-requires : tie.Need-new-requires Inv-loop μ-loop
+new-requires c κs = search needs
+
+loop-holds : tie.Need-loop-holds Inv-loop μ-loop
+loop-holds c =
+    let a = c .before .before .before .before in
+    record {
+      walk = walk-start (a .args .s .now) (c .new .result) (sheetly (a .args .s .now) (a .pre .0)) (c .new .ensures);
+      row-so-far = refl;
+    }
+
+touch-requires : tie.Need-touch-requires Inv-loop μ-loop
+touch-requires c κs =
+    let a = c .before .before .before .before .before .before in
+    let s = a .args .s .now in
+    let l = c .before .loop in
+    let n = got-count (c .before .before .before .get-bits .ensures) in
+    let h = sheetly s (a .pre .0) .heads in
+    (in-sheet s h (l .i) (omega arith), walk-ready s (l .i) (omega arith) (l .order) (l .begun) (l .inv .walk) h)
+
+slice-write-row : tie.Need-slice-write-row Inv-loop μ-loop
+slice-write-row c =
+    let a = c .before .before .before .before .before .before .before in
+    let s = a .args .s .now in
+    let row₀ = a .args .row .now in
+    let l = c .before .before .loop in
+    let n = got-count (c .before .before .before .before .get-bits .ensures) in
+    let q = ap length (l .inv .row-so-far) in
+    omega (arith, fill-length (rowOf s) row₀ (l .i) (omega (arith, length-row s)) (omega (arith, a .pre .1)), a .pre .1)
+
+add-i : tie.Need-add-i Inv-loop μ-loop
+add-i c = omega arith
+
+loop-less : tie.Need-loop-less Inv-loop μ-loop
+loop-less c = omega arith
+
+loop-again : tie.Need-loop-again Inv-loop μ-loop
+loop-again c =
+    let a = c .before .before .before .before .before .before .before .before in
+    let s = a .args .s .now in
+    let row₀ = a .args .row .now in
+    let l = c .before .before .before .loop in
+    let n = got-count (c .before .before .before .before .before .get-bits .ensures) in
+    let t = c .before .touch in
+    let x = walk-label s (l .i) (omega arith) (l .order) (l .begun) (l .inv .walk) (t .result) (t .ensures) in
+    record {
+      walk = walk-step s (l .i) (omega arith) (l .order) (l .begun) (l .inv .walk) (t .result) (t .ensures);
+      row-so-far =
+          ap (λ (r : List ℕ). set r (l .i) (t .result .label)) (l .inv .row-so-far)
+          ∙ fill-step (rowOf s) row₀ (l .i) (t .result .label) (omega (arith, length-row s)) (omega (arith, a .pre .1)) x;
+    }
+
+same-length : tie.Need-same-length Inv-loop μ-loop
+same-length c =
+    let a = c .before .before .before .before .before .before in
+    let s = a .args .s .now in
+    let row₀ = a .args .row .now in
+    let l = c .before .loop in
+    let n = got-count (c .before .before .before .get-bits .ensures) in
+    let i : l .i ≡ countOf s = omega (arith, l .inv .walk .within) in
+    ap length (l .inv .row-so-far)
+    ∙ fill-length (rowOf s) row₀ (l .i) (omega (arith, length-row s)) (omega (arith, a .pre .1))
+
+returns : tie.Need-returns Inv-loop μ-loop
+returns c =
+    let a = c .before .before .before .before .before .before in
+    let s = a .args .s .now in
+    let row₀ = a .args .row .now in
+    let l = c .before .loop in
+    let n = got-count (c .before .before .before .get-bits .ensures) in
+    let i : l .i ≡ countOf s = omega (arith, l .inv .walk .within) in
+    l .inv .row-so-far ∙ fill-end (rowOf s) row₀ (l .i) (i ∙ sym (length-row s))
+
+pub write-row-spec : {M : Type 1} → statement M
+write-row-spec =
+    tie.close
+    (tie.spec
+    Inv-loop
+    μ-loop
+    get-bits-requires
+    cast-n
+    new-requires
+    loop-holds
+    touch-requires
+    slice-write-row
+    add-i
+    loop-less
+    loop-again
+    same-length
+    returns)
