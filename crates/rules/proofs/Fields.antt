@@ -5,7 +5,7 @@ use native.Mathlib.Nat.{mul-zero, mul-suc, mul-assoc, add-mul, add-comm, pow-suc
 use native.Mathlib.Omega.{arith}
 use mathlib.Core.List.{List, [], _∷_, _++_, append-assoc}
 use lib.ListN.{length, getD, take, drop, replicate, length-append, length-take, length-drop, take-append-drop}
-use lib.Seq.{take-at, drop-at, take-nil, drop-nil, take-append-add, drop-append-add, length-take-le, take-all}
+use lib.Seq.{take-at, drop-at, take-nil, drop-nil, take-append-add, drop-append-add, length-take-le, take-all, drop-drop}
 use lib.Arith.{digits-lt, digits-div, mod-mul}
 use lib.Pow.{pow-pos, pow-mono, pow-add, shr-shr}
 use Rattle.rules.specs.Bits.{digits, val, pack, unpack, bits, bytes, field, Below, nil, cons}
@@ -86,6 +86,9 @@ unfolding val
 val-lt nil = zero-lt-suc 0
 val-lt (cons {xs = xs} h p) = rw (pow-succ' 2 (length xs)) (digits-lt h (val-lt p))
 
+pub val-take-lt : (w : ℕ) {l : List ℕ} → Below 2 l → val (take w l) < 2 ^ w
+val-take-lt w {l} p = lt-of-lt-of-le (val-lt (below-take w p)) (pow-mono (omega (arith, length-take w l)))
+
 -- w digits say a number up to multiples of 2 ^ w
 pub val-digits-mod : (w v : ℕ) → val (digits w v) ≡ v % 2 ^ w
 unfolding digits val
@@ -120,6 +123,17 @@ unfolding digits val
 digits-val nil = refl
 digits-val (cons {x} {xs} h p) =
     λ i. (ap (λ (y : ℕ). y % 2) (digits-div x (val-lt p)) ∙ mod-eq-of-lt h) i ∷ (digits-low (length xs) x (val xs) ∙ digits-val p) i
+
+-- the first w bits, read as a number and written again
+pub digits-first : (w : ℕ) {l : List ℕ} → Below 2 l → w ≤ length l → digits w (val (take w l)) ++ drop w l ≡ l
+digits-first w {l} p h =
+    ap (λ (k : ℕ). digits k (val (take w l)) ++ drop w l) (sym (length-take-le w l h))
+    ∙ ap (λ (t : List ℕ). t ++ drop w l) (digits-val (below-take w p))
+    ∙ take-append-drop w l
+
+-- bits that spell 0 are all 0
+pub zero-bits : (w : ℕ) {l : List ℕ} → Below 2 l → length l ≡ w → val l ≡ 0 → l ≡ digits w 0
+zero-bits w p e z = sym (digits-val p) ∙ ap₂ digits e z
 
 -- the bits above the low k are those of the number above
 high-bit : (j k a : ℕ) {r : ℕ} → r < 2 ^ k → (a * 2 ^ k + r) / 2 ^ (j + k) ≡ a / 2 ^ j
@@ -214,18 +228,13 @@ pub pack-unpack : (w n : ℕ) {l : List ℕ} → Below 2 l → length l ≡ w * 
 unfolding pack unpack
 pack-unpack w zero {l} p e = take-all 0 l (omega (arith, mul-zero w))
 pack-unpack w (suc n) {l} p e =
-    let t : length (take w l) ≡ w = length-take-le w l (omega (arith, mul-suc w n)) in
-    ap₂ _++_
-    (ap (λ (k : ℕ). digits k (val (take w l))) (sym t) ∙ digits-val (below-take w p))
-    (pack-unpack w n (below-drop w p) (omega (arith, length-drop w l, mul-suc w n)))
-    ∙ take-append-drop w l
+    ap (λ (r : List ℕ). digits w (val (take w l)) ++ r) (pack-unpack w n (below-drop w p) (omega (arith, length-drop w l, mul-suc w n)))
+    ∙ digits-first w p (omega (arith, mul-suc w n))
 
-pub below-unpack : (w n : ℕ) {l : List ℕ} → Below 2 l → w * n ≤ length l → Below (2 ^ w) (unpack w n l)
+pub below-unpack : (w n : ℕ) {l : List ℕ} → Below 2 l → Below (2 ^ w) (unpack w n l)
 unfolding unpack
-below-unpack w zero p h = nil
-below-unpack w (suc n) {l} p h =
-    let t : length (take w l) ≡ w = length-take-le w l (omega (arith, mul-suc w n)) in
-    cons (rw t at (val-lt (below-take w p))) (below-unpack w n (below-drop w p) (omega (arith, length-drop w l, mul-suc w n)))
+below-unpack w zero p = nil
+below-unpack w (suc n) p = cons (val-take-lt w p) (below-unpack w n (below-drop w p))
 
 -- ---- bytes
 
@@ -239,13 +248,18 @@ pub length-bytes : (k : ℕ) (l : List ℕ) → length l ≡ 8 * k → length (b
 length-bytes k l e = length-unpack 8 (length l / 8) l ∙ omega arith
 
 pub below-bytes : {l : List ℕ} → Below 2 l → Below 256 (bytes l)
-below-bytes {l} p = below-unpack 8 (length l / 8) p (omega arith)
+below-bytes {l} p = below-unpack 8 (length l / 8) p
 
 -- ---- a field of bytes
 
 pub field-lt : (s : List ℕ) (i w : ℕ) → field s i w < 2 ^ w
-field-lt s i w =
-    lt-of-lt-of-le (val-lt (below-take w (below-drop i (below-pack 8 s)))) (pow-mono (omega (arith, length-take w (drop i (bits s)))))
+field-lt s i w = val-take-lt w (below-drop i (below-pack 8 s))
+
+-- a field, written again before the bits behind it
+pub digits-field : (s : List ℕ) (i w : ℕ) → i + w ≤ 8 * length s → digits w (field s i w) ++ drop (i + w) (bits s) ≡ drop i (bits s)
+digits-field s i w h =
+    ap (λ (r : List ℕ). digits w (field s i w) ++ r) (sym (drop-drop w i (bits s)))
+    ∙ digits-first w (below-drop i (below-pack 8 s)) (omega (arith, length-drop i (bits s), length-pack 8 s))
 
 -- a field that was laid out after i bits
 pub field-here : (s pre post : List ℕ) (i w : ℕ) {v : ℕ} → bits s ≡ pre ++ digits w v ++ post → length pre ≡ i → v < 2 ^ w → field s i w ≡ v

@@ -1,12 +1,11 @@
--- The tests limits and fits hold exactly where the inequalities of document 01 do.
-use mathlib.Core.Path.{_≡_, refl, sym, subst, _∙_}
+-- The test fits passes exactly where document 01's inequalities hold, and limits names the first of the three that is broken.
+use mathlib.Core.Path.{_≡_, refl}
 use mathlib.Core.Logic.{_↔_}
 use mathlib.Core.Bool.{Bool, true, false, _&&_}
-use Prim.Native.Nat.{ℕ, suc, _+_, _-_, _≤_, _<_}
+use Prim.Native.Nat.{ℕ, _+_, _-_, _≤_, _<_}
 use lib.Dec.{T, leb, ltb}
-use borrow.Author.Tests.{ltb-true, ltb-false, leb-true, lt-ltb, le-ltb, le-leb}
+use borrow.Author.Tests.{ltb-false, leb-true, lt-ltb, le-ltb, le-leb}
 use native.Mathlib.Omega.{arith}
-use Rattle.rules.specs.declared.Limits.{Limits}
 use Rattle.rules.specs.declared.Limits.the-variants.{Met, Upper, Lower, Sum}
 use Rattle.rules.specs.Basic.{pick}
 use Rattle.rules.specs.Street.{limits, met, fits}
@@ -36,30 +35,32 @@ module _ (ku kl p b : ℕ) where
   unfolding limits pick
   within-met h₁ h₂ h₃ = rw (le-ltb ku (p - 1) h₁, le-ltb kl (b - p) h₂, le-ltb (ku + kl) b h₃)
 
-  pub met-within : limits ku kl p b ≡ Met → (p - 1 ≤ ku) × (b - p ≤ kl) × (b ≤ ku + kl)
-  unfolding limits pick
-  met-within e = go (ltb ku (p - 1)) (ltb kl (b - p)) (ltb (ku + kl) b) refl refl refl e
+  test-within : T (met (limits ku kl p b)) → (p - 1 ≤ ku) × (b - p ≤ kl) × (b ≤ ku + kl)
+  unfolding limits pick met
+  test-within t = go (ltb ku (p - 1)) (ltb kl (b - p)) (ltb (ku + kl) b) refl refl refl t
     where
-      go : (u l s : Bool) → ltb ku (p - 1) ≡ u → ltb kl (b - p) ≡ l → ltb (ku + kl) b ≡ s → pick u Upper (pick l Lower (pick s Sum Met)) ≡ Met → (p - 1 ≤ ku) × (b - p ≤ kl) × (b ≤ ku + kl)
-      go true l s eu el es m = let z : _≡_ {A = ℕ} 0 1 = cc in absurd (omega arith)
-      go false true s eu el es m = let z : _≡_ {A = ℕ} 0 1 = cc in absurd (omega arith)
-      go false false true eu el es m = let z : _≡_ {A = ℕ} 0 1 = cc in absurd (omega arith)
-      go false false false eu el es m = omega (arith, ltb-false)
+      go : (u l s : Bool) → ltb ku (p - 1) ≡ u → ltb kl (b - p) ≡ l → ltb (ku + kl) b ≡ s →
+          T (met (pick u Upper (pick l Lower (pick s Sum Met)))) → (p - 1 ≤ ku) × (b - p ≤ kl) × (b ≤ ku + kl)
+      go true l s eu el es t = absurd t
+      go false true s eu el es t = absurd t
+      go false false true eu el es t = absurd t
+      go false false false eu el es t = omega (arith, ltb-false)
+
+  pub met-within : limits ku kl p b ≡ Met → (p - 1 ≤ ku) × (b - p ≤ kl) × (b ≤ ku + kl)
+  unfolding met
+  met-within e = test-within (rw e tt)
 
   pub limits-met : limits ku kl p b ≡ Met ↔ ((p - 1 ≤ ku) × (b - p ≤ kl) × (b ≤ ku + kl))
   limits-met = (met-within, λ h. within-met (h .0) (h .1) (h .2))
 
   pub fits→ : T (fits ku kl p b) → Fits ku kl p b
-  unfolding fits met
-  fits→ t = go (leb 1 p) (leb p b) (limits ku kl p b) refl refl refl t
+  unfolding fits
+  fits→ t = go (leb 1 p) (leb p b) refl refl t
     where
-      go : (l h : Bool) (m : Limits) → leb 1 p ≡ l → leb p b ≡ h → limits ku kl p b ≡ m → T (l && h && met m) → Fits ku kl p b
-      go true true Met el eh em t = omega (arith, leb-true, met-within em)
-      go true true Upper el eh em t = absurd t
-      go true true Lower el eh em t = absurd t
-      go true true Sum el eh em t = absurd t
-      go true false m el eh em t = absurd t
-      go false h m el eh em t = absurd t
+      go : (l h : Bool) → leb 1 p ≡ l → leb p b ≡ h → T (l && h && met (limits ku kl p b)) → Fits ku kl p b
+      go true true el eh t = omega (arith, leb-true, test-within t)
+      go true false el eh t = absurd t
+      go false h el eh t = absurd t
 
   pub →fits : Fits ku kl p b → T (fits ku kl p b)
   unfolding fits met

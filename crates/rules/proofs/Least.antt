@@ -1,5 +1,5 @@
--- The least number below n at which a test holds: it is at most n, the test holds there and fails before, and no other is so.
-use mathlib.Core.Path.{_≡_, refl, sym, ap, _∙_}
+-- least is at most its bound; the test holds there, if it is below the bound, and fails before.
+use mathlib.Core.Path.{_≡_, refl}
 use mathlib.Core.Bool.{Bool, true, false}
 use Prim.Native.Nat.{ℕ, zero, suc, _≤_, _<_}
 use native.Mathlib.Omega.{arith}

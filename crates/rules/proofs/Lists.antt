@@ -1,11 +1,10 @@
--- Lengths and round trips of put and cut, and where before's place lies.
-use mathlib.Core.Path.{_≡_, refl, ap, subst}
+-- What is put into a list can be cut out again, lengths count it, and before is at most the length.
+use mathlib.Core.Path.{_≡_, refl, ap}
 use mathlib.Core.Bool.{Bool, true, false}
 use mathlib.Core.List.{List, [], _∷_}
 use Prim.Native.Nat.{ℕ, zero, suc, _≤_, _<_}
-use lib.ListN.{length, getD}
+use lib.ListN.{length}
 use lib.Dec.{eqb}
-use borrow.Author.Tests.{eqb-true}
 use native.Mathlib.Omega.{arith}
 use Rattle.rules.specs.Basic.{pick, put, cut}
 use Rattle.rules.specs.Row.{before}

@@ -27,7 +27,7 @@ pub record Said : Type 0 where
 abbrev pub says : ℕ → ℕ → Said
 says number place = record { number = number; place = place }
 
--- each of the three limits is 17
+-- each of the three limits is 17; Met is no fault and is never given as one
 unfoldable pub limitNumber : Limits → ℕ
 limitNumber Limits.Met = 0
 limitNumber Limits.Upper = 17
@@ -90,7 +90,7 @@ routing row ku kl work sheet =
     let late = outcome ku kl (nodes row) (first ku kl (nodes row)) in
     settle (refusal (length row) (firstLone row) ku kl (length work) (length sheet)) late
 
--- the sheet of a row's first placing
+-- the sheet of a row's first placing; read only where there is one
 unfoldable pub firstSheet : (row : List ℕ) (ku kl : ℕ) → List ℕ
 firstSheet row ku kl = sheet ku kl (nodes row) (settle (first ku kl (nodes row)) [])
 

@@ -15,7 +15,7 @@ use Rattle.rules.specs.Sheet.{kindIn, begun, Entry, entry, upperOf, entr
 abbrev pub axis : ℕ
 axis = 4
 
--- u, the number of wires laid in the upper street: a line for each Ku from 0, in it a number for each p from 1
+-- u, the number of wires laid in the upper street: a line for each Ku from 0, in it a number for each p from 1; blank cells are not read
 unfoldable pub uppers : List (List ℕ)
 uppers = (0 ∷ []) ∷ (1 ∷ 1 ∷ []) ∷ (1 ∷ 2 ∷ 2 ∷ []) ∷ (1 ∷ 2 ∷ 3 ∷ 3 ∷ []) ∷ []
 
@@ -110,7 +110,8 @@ ending B x w = []
 ending M x w = []
 ending E x w = ran x w ∷ []
 
--- the records from node i on, from 0, with n nets begun: the moves before each node, its stub, and at an E the last run
+-- the records from node i on, from 0, with n nets begun: the moves before each node, its stub, and at an E the last run.
+-- The net with a others above is always there in a legal sheet, so the wire that stands in for a missing one is never drawn
 unfoldable pub draw : (pitch ku i n : ℕ) → List Wire → List Entry → List Rec
 draw pitch ku i n ws [] = []
 draw pitch ku i n ws (entry f a ∷ es) =

@@ -7,4 +7,3 @@ pub mod Film
 pub mod WireRules
 pub mod Judgement
 pub mod Answers
-pub mod Specimens

@@ -1,6 +1,6 @@
 -- Document 01, 'The row and its words': rows, nets, kinds, joined pins, lone labels.
 --
--- A row is a list of labels, one byte a node. Document 01 counts nodes from 1; definitions count from 0, and answers give one more.
+-- A row is a list of labels, one byte a node. Document 01 counts nodes from 1; here node i is the one with i before it, and answers give i + 1.
 use mathlib.Core.Path.{_≡_}
 use mathlib.Core.Bool.{Bool, true, false, not, _&&_}
 use mathlib.Core.List.{List, [], _∷_}

@@ -1,15 +1,16 @@
 -- Document 01, 'The sheet': its fields, its bytes, the sheet of a placing, and the row that the reader gives back.
 --
 -- "Sheet" is document 01's own term.
-use mathlib.Core.Bool.{Bool, _&&_}
+use mathlib.Core.Path.{_≡_}
+use mathlib.Core.Bool.{Bool, false, _&&_}
 use mathlib.Core.List.{List, [], _∷_, _++_}
-use Prim.Native.Nat.{ℕ, zero, suc, _+_, _-_, _*_, _/_}
+use Prim.Native.Nat.{ℕ, zero, suc, _+_, _-_, _*_, _/_, _≤_, _<_}
 use lib.ListN.{length, getD, drop}
 use lib.Dec.{leb}
 use Rattle.rules.specs.Basic.{tabulate}
-use Rattle.rules.specs.Row.{Kind, B, M, E, Node, node}
-use Rattle.rules.specs.Street.{kind, next}
-use Rattle.rules.specs.Bits.{digits, val, bits, bytes, field}
+use Rattle.rules.specs.Row.{Kind, B, M, E, Node, node, nodes, lone}
+use Rattle.rules.specs.Street.{kind, next, Placing}
+use Rattle.rules.specs.Bits.{digits, val, bits, bytes, field, Below}
 
 -- the track counts that the router takes
 unfoldable pub takes : (ku kl : ℕ) → Bool
@@ -58,6 +59,25 @@ sheetBits ku kl es =
 -- the sheet of nodes with their positions
 unfoldable pub sheet : (ku kl : ℕ) → List Node → List ℕ → List ℕ
 sheet ku kl ns ps = bytes (sheetBits ku kl (entries ns ps))
+
+-- a row with a placing, under a node count and track counts that the router takes
+pub record Placed (row : List ℕ) (ku kl : ℕ) (ps : List ℕ) : Type 0 where
+  pub bytes-alone : Below 256 row
+  pub least : 2 ≤ length row
+  pub most : length row ≤ 512
+  pub whole : (i : ℕ) → i < length row → lone row i ≡ false
+  pub upper : ku ≤ 3
+  pub lower : kl ≤ 3
+  pub placing : Placing ku kl (nodes row) ps
+
+-- s is the sheet of some row's placing
+pub record SheetOf (s : List ℕ) : Type 0 where
+  pub row : List ℕ
+  pub ku : ℕ
+  pub kl : ℕ
+  pub ps : List ℕ
+  pub placed : Placed row ku kl ps
+  pub is : s ≡ sheet ku kl (nodes row) ps
 
 -- what stands in a sheet's fields
 unfoldable pub upperOf : List ℕ → ℕ

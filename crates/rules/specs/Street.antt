@@ -15,7 +15,7 @@ use Rattle.rules.specs.declared.Limits.the-variants.{Met, Upper, Lower, 
 use Rattle.rules.specs.Basic.{pick, least, put, cut, keep, andThen, orElse, isNone}
 use Rattle.rules.specs.Row.{before, Kind, B, M, E, Node, node}
 
--- which of the three limits the touched wire at position p of b breaks: p − 1 ≤ Ku, b − p ≤ Kl, b ≤ Ku + Kl
+-- the first of the three limits that the wire at position p of b breaks, or Met: p − 1 ≤ Ku, b − p ≤ Kl, b ≤ Ku + Kl
 unfoldable pub limits : (ku kl p b : ℕ) → Limits
 limits ku kl p b = pick (ltb ku (p - 1)) Upper (pick (ltb kl (b - p)) Lower (pick (ltb (ku + kl) b) Sum Met))
 

@@ -1,6 +1,7 @@
 -- Document 01, 'From sheet to wires', its last paragraph: the wire rules of document 000 for a film of records.
 --
--- Segments have integer ends and lie along rows or columns, so two of them meet exactly if they share an integer point.
+-- Segments have integer ends and lie along rows or columns, so two of them meet exactly if they share an integer point. "No track is
+-- overfilled" is the letter's.
 use mathlib.Core.Path.{_≡_}
 use mathlib.Core.Bool.{Bool, _&&_}
 use mathlib.Core.List.{List, [], _∷_, List·Memᴰ}
@@ -48,6 +49,11 @@ pub record WireRules (pitch ku kl : ℕ) (row : List ℕ) (film : List Rec) : Ty
   pub cuts : (net c : ℕ) → overs net c film ≤ 1
   -- horizontals lie on tracks −Kl to Ku and never on the axis
   pub tracks : (n h l r : ℕ) → List·Memᴰ (across n h l r) film → (axis - kl ≤ h) × (h ≤ axis + ku) × (h ≢ axis)
-  -- no track is overfilled: two horizontals at one height are the same record, or share no column
+
+-- a film that is drawn well besides: records have a length, verticals stay in the streets, and no track is overfilled, so that two
+-- horizontals at one height are the same record or share no column
+pub record Tidy (ku kl : ℕ) (film : List Rec) : Type 0 where
+  pub wide : (n h l r : ℕ) → List·Memᴰ (across n h l r) film → l < r
+  pub tall : (n l x h : ℕ) → List·Memᴰ (upright n l x h) film → (l < h) × (axis - kl ≤ l) × (h ≤ axis + ku)
   pub filled : (n h l r n′ l′ r′ : ℕ) → List·Memᴰ (across n h l r) film → List·Memᴰ (across n′ h l′ r′) film
       → (across n h l r ≡ across n′ h l′ r′) ⊎ ((r < l′) ⊎ (r′ < l))

@@ -1,0 +1,3 @@
+pub mod Ranks
+pub mod Hops
+pub mod Bits

@@ -1,0 +1,4 @@
+pub mod Plan
+pub mod Ranks
+pub mod Sets
+pub mod Stops

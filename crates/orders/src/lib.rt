@@ -1,0 +1,2 @@
+// Sets of orders, as marks on ranks in lent bytes, and the passes of the router over them.
+pub mod rank;

@@ -1,0 +1,24 @@
+-- Reading order is strict, and goes by what follows where two lists begin alike.
+use mathlib.Core.Path.{_≡_}
+use mathlib.Core.List.{List, _∷_}
+use Prim.Native.Nat.{ℕ}
+use native.Mathlib.Omega.{arith}
+use Rattle.rules.specs.Street.{Earlier, here, there}
+
+pub earlier-asymmetric : {ps qs : List ℕ} → Earlier ps qs → Earlier qs ps → ⊥
+earlier-asymmetric (here a) (here b) = omega arith
+earlier-asymmetric (here a) (there e r) = omega arith
+earlier-asymmetric (there e r) (here b) = omega arith
+earlier-asymmetric (there e r) (there e′ r′) = earlier-asymmetric r r′
+
+pub earlier-irreflexive : {ps : List ℕ} → Earlier ps ps → ⊥
+earlier-irreflexive h = earlier-asymmetric h h
+
+pub earlier-tail : {p q : ℕ} {ps qs : List ℕ} → p ≡ q → Earlier (p ∷ ps) (q ∷ qs) → Earlier ps qs
+earlier-tail e (here l) = absurd (omega arith)
+earlier-tail e (there e′ r) = r
+
+pub earlier-map : {p q : ℕ} {ps qs cs ds : List ℕ} → (p ≡ q → Earlier ps qs → Earlier cs ds) →
+    Earlier (p ∷ ps) (q ∷ qs) → Earlier (p ∷ cs) (q ∷ ds)
+earlier-map f (here l) = here l
+earlier-map f (there e r) = there e (f e r)
