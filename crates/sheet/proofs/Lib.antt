@@ -7,3 +7,6 @@ pub mod Touches
 pub mod Walks
 pub mod Fills
 pub mod Readings
+pub mod Matches
+pub mod Turns
+pub mod Agreements
