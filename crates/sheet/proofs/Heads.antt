@@ -1,19 +1,18 @@
 -- The head of a sheet, test by test, and what holds of a sheet whose head has no fault.
-use mathlib.Core.Path.{_≡_, refl, ap, _∙_}
+use mathlib.Core.Path.{_≡_, refl}
 use mathlib.Core.Bool.{Bool, true, false, not, _&&_, _||_}
 use mathlib.Core.List.{List}
-use mathlib.Core.Option.{Option, none, some}
-use Prim.Native.Nat.{ℕ, suc, _+_, _*_, _-_, _/_, _^_, _≤_, _<_}
+use mathlib.Core.Option.{none, some}
+use Prim.Native.Nat.{ℕ, _-_, _≤_, _<_}
 use native.Mathlib.Omega.{arith}
 use lib.ListN.{length}
 use lib.Dec.{leb, ltb, eqb}
-use borrow.Author.Tests.{ltb-true, ltb-false, leb-true, leb-false, eqb-true, lt-ltb, le-ltb, le-leb, lt-leb, eq-eqb, ne-eqb}
-use Rattle.rules.specs.declared.Fault.{Fault}
+use borrow.Author.Tests.{ltb-false, leb-true, eqb-true, lt-ltb, le-ltb, le-leb, lt-leb, eq-eqb, ne-eqb}
 use Rattle.rules.specs.declared.Fault.the-variants.{Head, Tracks, Length}
 use Rattle.rules.specs.Basic.{keep, orElse}
 use Rattle.rules.specs.Sheet.{takes, size, upperOf, lowerOf, countOf}
 use Rattle.rules.specs.Judgement.{wrongCount, head}
-use Rattle.rules.proofs.Fields.{field-lt}
+use Rattle.rules.proofs.SheetFields.{lowerOf-lt}
 use Rattle.bits.specs.Access.{Got}
 use Rattle.sheet.specs.Told.{InSheet}
 
@@ -26,9 +25,8 @@ pub record Headed (s : List ℕ) : Type 0 where
   pub lower : lowerOf s ≤ 3
   pub whole : length s ≡ size (countOf s)
 
-pub lower-small : (s : List ℕ) → lowerOf s ≤ 3
-unfolding lowerOf
-lower-small s = omega (arith, field-lt s 4 2)
+lower-small : (s : List ℕ) → lowerOf s ≤ 3
+lower-small s = omega (arith, lowerOf-lt s)
 
 -- what was read from the head's fields
 pub got-upper : {s : List ℕ} {r : ℕ} → Got s 0 4 r → r ≡ upperOf s

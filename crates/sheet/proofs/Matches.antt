@@ -1,8 +1,7 @@
 -- Two rows met node by node, with a table from the labels of the first to the nets of the second: so far they join the same pins.
-use mathlib.Core.Path.{_≡_, refl, sym, ap, ap₂, _∙_}
+use mathlib.Core.Path.{_≡_, refl, sym, ap, _∙_}
 use mathlib.Core.Bool.{Bool, true, false}
-use mathlib.Core.List.{List, [], _∷_}
-use mathlib.Core.Logic.{_⊎_, inl, inr}
+use mathlib.Core.List.{List, _∷_}
 use Prim.Native.Nat.{ℕ, zero, suc, _+_, _≤_, _<_}
 use native.Mathlib.Decide.{ℕ-discrete}
 use native.Mathlib.Numerals.{add-one}
@@ -13,7 +12,7 @@ use lib.Dec.{eqb}
 use borrow.Author.Tests.{eqb-true, eqb-false, eq-eqb, ne-eqb}
 use Rattle.rules.specs.Basic.{pick}
 use Rattle.rules.specs.Row.{joined, SamePins}
-use Rattle.sheet.specs.InTurn.{InTurn, nil, old, new}
+use Rattle.sheet.specs.InTurn.{InTurn, old, new}
 
 -- x stands in the list before place i
 pub record Past (l : List ℕ) (i x : ℕ) : Type 0 where

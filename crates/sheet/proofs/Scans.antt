@@ -1,11 +1,11 @@
 -- The walk over a sheet's entries: what is left of the scan at a node, with the count of open nets there.
 use mathlib.Core.Path.{_≡_, refl, sym, ap, ap₂, _∙_}
 use mathlib.Core.List.{List, [], _∷_}
-use mathlib.Core.Option.{Option, none, some}
-use Prim.Native.Nat.{ℕ, zero, suc, _+_, _-_, _≤_, _<_}
+use mathlib.Core.Option.{none, some}
+use Prim.Native.Nat.{ℕ, suc, _+_, _-_, _≤_, _<_}
 use native.Mathlib.Numerals.{add-one}
 use native.Mathlib.Omega.{arith}
-use lib.ListN.{length, getD, drop}
+use lib.ListN.{drop}
 use lib.Seq.{drop-cons, drop-length}
 use Rattle.rules.specs.declared.Fault.{Fault}
 use Rattle.rules.specs.Basic.{orElse, tabulate}
@@ -13,11 +13,8 @@ use Rattle.rules.specs.Row.{Kind, B, M, E}
 use Rattle.rules.specs.Sheet.{kindIn, Entry, entry, upperOf, lowerOf, countOf, entryAt, entriesOf}
 use Rattle.rules.specs.Judgement.{faultAt, left, scan, leftOpen, middle}
 use Rattle.rules.proofs.Pins.{length-tabulate, getD-tabulate}
+use Rattle.rules.proofs.SheetFields.{length-entriesOf}
 use Rattle.sheet.specs.Told.{kindAt}
-
-pub length-entries : (s : List ℕ) → length (entriesOf s) ≡ countOf s
-unfolding entriesOf
-length-entries s = length-tabulate (entryAt s) (countOf s)
 
 -- the entries from node i on are its own and those after it
 pub entries-from : (s : List ℕ) (i : ℕ) → i < countOf s → drop i (entriesOf s) ≡ entryAt s i ∷ drop (suc i) (entriesOf s)
@@ -27,7 +24,7 @@ entries-from s i h =
     ∙ ap (λ (e : Entry). e ∷ drop (suc i) (tabulate (entryAt s) (countOf s))) (getD-tabulate (entryAt s) (countOf s) i (entry 0 0) h)
 
 pub entries-end : (s : List ℕ) (i : ℕ) → i ≡ countOf s → drop i (entriesOf s) ≡ []
-entries-end s i e = rw (e ∙ sym (length-entries s)) (drop-length (entriesOf s))
+entries-end s i e = rw (e ∙ sym (length-entriesOf s)) (drop-length (entriesOf s))
 
 left-le : (b : ℕ) (e : Entry) → left (kindAt e) b ≤ suc b
 unfolding kindAt left

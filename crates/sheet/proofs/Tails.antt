@@ -1,17 +1,15 @@
 -- The end of a sheet: 18 of the count of open nets, 19 of the bits after the last node.
-use mathlib.Core.Path.{_≡_, refl, ap, _∙_}
-use mathlib.Core.Bool.{Bool, true, false, not}
+use mathlib.Core.Path.{_≡_, ap, _∙_}
 use mathlib.Core.List.{List}
 use mathlib.Core.Option.{none, some}
-use Prim.Native.Nat.{ℕ, _+_, _*_, _-_, _≤_}
+use Prim.Native.Nat.{ℕ, _+_, _*_, _-_}
 use native.Mathlib.Omega.{arith}
-use lib.ListN.{length, take, drop, length-drop}
+use lib.ListN.{length, drop, length-drop}
 use lib.Seq.{take-all}
-use lib.Dec.{eqb}
-use borrow.Author.Tests.{eqb-true, eq-eqb, ne-eqb}
+use borrow.Author.Tests.{eq-eqb, ne-eqb}
 use Rattle.rules.specs.declared.Fault.the-variants.{Open, Padding}
 use Rattle.rules.specs.Basic.{keep, orElse}
-use Rattle.rules.specs.Bits.{bits, val, field}
+use Rattle.rules.specs.Bits.{bits, val}
 use Rattle.rules.specs.Sheet.{size, countOf, entriesOf, paddingOf}
 use Rattle.rules.specs.Judgement.{leftOpen, tail}
 use Rattle.rules.proofs.Fields.{length-pack}
@@ -42,13 +40,3 @@ module _ (s : List ℕ) where
       g .is
       ∙ ap val (take-all (8 * length s - (16 + 6 * n)) (drop (16 + 6 * n) (bits s)) (omega (arith, length-drop (16 + 6 * n) (bits s), length-pack 8 s)))
       ∙ ap (λ (k : ℕ). val (drop (16 + 6 * k) (bits s))) e
-
-  pub tail-none : tail s ≡ none → (leftOpen 0 (entriesOf s) ≡ 0) × (paddingOf s ≡ 0)
-  unfolding tail keep orElse
-  tail-none e = go (eqb (leftOpen 0 (entriesOf s)) 0) (eqb (paddingOf s) 0) refl refl e
-    where
-      go : (a b : Bool) → eqb (leftOpen 0 (entriesOf s)) 0 ≡ a → eqb (paddingOf s) 0 ≡ b
-          → orElse (keep (not a) (Open (countOf s))) (keep (not b) Padding) ≡ none → (leftOpen 0 (entriesOf s) ≡ 0) × (paddingOf s ≡ 0)
-      go true true ea eb e = (eqb-true (leftOpen 0 (entriesOf s)) 0 ea, eqb-true (paddingOf s) 0 eb)
-      go true false ea eb e = let z : _≡_ {A = ℕ} 0 1 = cc in absurd (omega arith)
-      go false b ea eb e = let z : _≡_ {A = ℕ} 0 1 = cc in absurd (omega arith)

@@ -54,8 +54,3 @@ after-none o′ p = ap (λ o. orElse o o′) p
 pub after-fault : {o : Option Fault} {e : Fault} (o′ : Option Fault) → o ≡ some e → orElse o o′ ≡ some e
 unfolding orElse
 after-fault o′ p = ap (λ o. orElse o o′) p
-
-pub none-both : (o o′ : Option Fault) → orElse o o′ ≡ none → (o ≡ none) × (o′ ≡ none)
-unfolding orElse
-none-both none o′ p = (refl, p)
-none-both (some e) o′ p = let z : _≡_ {A = ℕ} 0 1 = cc in absurd (omega arith)

@@ -1,6 +1,5 @@
 -- One node of a walk, by its kind: what `Ready` gives the functions of an order, and what they make `Touched`.
-use mathlib.Core.Path.{_≡_, refl, sym, ap, _∙_}
-use mathlib.Core.List.{List}
+use mathlib.Core.Path.{_≡_, refl, ap, _∙_}
 use Prim.Native.Nat.{ℕ, zero, suc, _+_, _-_, _≤_, _<_}
 use native.Mathlib.Omega.{arith}
 use lib.ListN.{getD}
@@ -11,7 +10,6 @@ use Rattle.rules.specs.Sheet.{kindIn, Entry, entry, begun, labelled}
 use Rattle.rules.specs.Judgement.{left}
 use Rattle.street.specs.declared.Order.{Order}
 use Rattle.street.specs.Order.{listed, Sound, Inserted, Removed}
-use Rattle.sheet.specs.declared.reader.Step.{Step}
 use Rattle.sheet.specs.Told.{kindAt, aboveAt}
 use Rattle.sheet.specs.Walk.{Ready, Touched}
 

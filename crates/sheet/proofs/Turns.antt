@@ -1,15 +1,15 @@
 -- The row that is given back numbers its nets in the order of their first nodes.
-use mathlib.Core.Path.{_≡_, refl, sym, ap, _∙_}
+use mathlib.Core.Path.{_≡_, refl}
 use mathlib.Core.List.{List, [], _∷_}
 use mathlib.Core.Option.{none}
-use Prim.Native.Nat.{ℕ, zero, suc, _-_, _≤_, _<_}
+use Prim.Native.Nat.{ℕ, zero, suc, _-_, _<_}
 use native.Mathlib.Omega.{arith}
-use lib.ListN.{length, getD}
+use lib.ListN.{length}
 use Rattle.rules.specs.Basic.{put, cut}
 use Rattle.rules.specs.Row.{Kind, B, M, E, node}
 use Rattle.rules.specs.Bits.{Below, nil, cons}
 use Rattle.rules.specs.Street.{counted, next}
-use Rattle.rules.specs.Sheet.{kindIn, Entry, entry, upperOf, lowerOf, entriesOf, begun, labelled, labels, rowOf}
+use Rattle.rules.specs.Sheet.{kindIn, Entry, begun, labelled, labels, rowOf}
 use Rattle.rules.specs.Judgement.{left, judge}
 use Rattle.rules.proofs.Fields.{below-at, below-mono}
 use Rattle.rules.proofs.Fits.{Fits}

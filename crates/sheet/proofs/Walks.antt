@@ -1,8 +1,8 @@
 -- A walk over the entries of a sheet without a fault: each entry is ready for its turn, and the labels are those of the sheet's row.
-use mathlib.Core.Path.{_≡_, refl, sym, ap, ap₂, _∙_}
-use mathlib.Core.List.{List, [], _∷_, _++_}
-use mathlib.Core.Option.{Option, none, some}
-use Prim.Native.Nat.{ℕ, zero, suc, _+_, _*_, _-_, _≤_, _<_}
+use mathlib.Core.Path.{_≡_, refl, sym, ap, _∙_}
+use mathlib.Core.List.{List, [], _∷_}
+use mathlib.Core.Option.{none}
+use Prim.Native.Nat.{ℕ, suc, _+_, _*_, _-_, _≤_, _<_}
 use native.Mathlib.Numerals.{add-one}
 use native.Mathlib.Omega.{arith}
 use lib.ListN.{length, getD, drop, length-drop}
@@ -11,32 +11,31 @@ use Rattle.rules.specs.Basic.{orElse}
 use Rattle.rules.specs.Row.{Kind, B, M, E, node}
 use Rattle.rules.specs.Street.{counted, next}
 use Rattle.rules.specs.Sheet.{kindIn, Entry, entry, upperOf, lowerOf, countOf, entryAt, entriesOf, begun, labelled, labels, rowOf}
-use Rattle.rules.specs.Judgement.{head, left, leftOpen, middle, tail, judge}
+use Rattle.rules.specs.Judgement.{head, left, middle, tail, judge}
 use Rattle.rules.proofs.Fits.{Fits}
-use Rattle.rules.proofs.Legal.{Legal, done, then, scan-legal}
+use Rattle.rules.proofs.Legal.{Legal, done, then}
+use Rattle.rules.proofs.SheetFields.{length-entriesOf}
+use Rattle.rules.proofs.GivenBack.{length-labels}
+use Rattle.rules.proofs.Accepted.{orElse-none, judge-passed}
 use Rattle.street.specs.declared.Order.{Order}
 use Rattle.street.specs.Order.{listed, Sound, Emptied}
 use Rattle.sheet.specs.declared.reader.Step.{Step}
 use Rattle.sheet.specs.Told.{kindAt, aboveAt}
 use Rattle.sheet.specs.Walk.{Ready, Touched}
 use Rattle.sheet.proofs.Heads.{Headed, headed}
-use Rattle.sheet.proofs.Tails.{tail-none}
-use Rattle.sheet.proofs.Tells.{none-both}
-use Rattle.sheet.proofs.Scans.{length-entries, entries-from}
+use Rattle.sheet.proofs.Scans.{entries-from}
 
--- the three parts of a judgement without a fault
-pub record Sheetly (s : List ℕ) : Type 0 where
+-- a sheet without a fault: its head, and its entries
+pub record Faultless (s : List ℕ) : Type 0 where
   pub heads : Headed s
   pub legal : Legal (upperOf s) (lowerOf s) 0 (entriesOf s)
 
-pub sheetly : (s : List ℕ) → judge s ≡ none → Sheetly s
-unfolding judge middle
-sheetly s e =
-    let h = none-both (head s) (orElse (middle s) (tail s)) e in
-    let b = none-both (middle s) (tail s) (h .1) in
+pub faultless : (s : List ℕ) → judge s ≡ none → Faultless s
+unfolding judge
+faultless s e =
     record {
-      heads = headed s (h .0);
-      legal = scan-legal (upperOf s) (lowerOf s) 1 0 (entriesOf s) (b .0) (tail-none s (b .1) .0);
+      heads = headed s (orElse-none (head s) (orElse (middle s) (tail s)) e .0);
+      legal = judge-passed s e .legal;
     }
 
 -- ---- what a legal entry allows
@@ -67,14 +66,9 @@ labels-cons : (n : ℕ) (o : List ℕ) (e : Entry) (es : List Entry)
 unfolding labels kindAt aboveAt
 labels-cons n o (entry f a) es = refl
 
-length-labels : (n : ℕ) (o : List ℕ) (es : List Entry) → length (labels n o es) ≡ length es
-unfolding labels
-length-labels n o [] = refl
-length-labels n o (entry f a ∷ es) = ap suc (length-labels (begun (kindIn f) n) (next (node (kindIn f) n) o (suc a)) es)
-
 pub length-row : (s : List ℕ) → length (rowOf s) ≡ countOf s
 unfolding rowOf
-length-row s = length-labels 0 [] (entriesOf s) ∙ length-entries s
+length-row s = length-labels 0 [] (entriesOf s) ∙ length-entriesOf s
 
 -- ---- the walk
 
@@ -86,7 +80,7 @@ pub record Walked (s : List ℕ) (i : ℕ) (o : Order) (n : ℕ) : Type 0 where
   pub few : 2 * n ≤ i + o .count
   pub ahead : labels n (listed o) (drop i (entriesOf s)) ≡ drop i (rowOf s)
 
-pub walk-start : (s : List ℕ) (o : Order) → Sheetly s → Emptied o → Walked s 0 o 0
+pub walk-start : (s : List ℕ) (o : Order) → Faultless s → Emptied o → Walked s 0 o 0
 unfolding rowOf
 walk-start s o w e =
     record {
@@ -113,9 +107,9 @@ module _ (s : List ℕ) (i : ℕ) (h : i < countOf s) (o : Order) (n : ℕ) (w :
       }
     where
       go : (k : Kind) → left k (o .count) ≤ length (drop (suc i) (entriesOf s)) → begun k n ≤ 256
-      go B l = omega (arith, length-drop (suc i) (entriesOf s), length-entries s, w .few, d .high)
-      go M l = omega (arith, length-drop (suc i) (entriesOf s), length-entries s, w .few, d .high)
-      go E l = omega (arith, length-drop (suc i) (entriesOf s), length-entries s, w .few, d .high)
+      go B l = omega (arith, length-drop (suc i) (entriesOf s), length-entriesOf s, w .few, d .high)
+      go M l = omega (arith, length-drop (suc i) (entriesOf s), length-entriesOf s, w .few, d .high)
+      go E l = omega (arith, length-drop (suc i) (entriesOf s), length-entriesOf s, w .few, d .high)
 
   module _ (r : Step) (t : Touched (entryAt s i) o n r) where
     both : (r .label ∷ labels (r .begun) (listed (r .order)) (drop (suc i) (entriesOf s))) ≡ getD (rowOf s) i 0 ∷ drop (suc i) (rowOf s)

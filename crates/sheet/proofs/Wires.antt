@@ -1,23 +1,20 @@
 -- The tests at one node: 15 by its kind field, then 16 and 17 of its wire.
-use mathlib.Core.Path.{_≡_, refl, sym, ap, ap₂, _∙_}
+use mathlib.Core.Path.{_≡_, sym, ap, ap₂, _∙_}
 use mathlib.Core.List.{List}
-use mathlib.Core.Option.{Option, none, some}
-use Prim.Native.Nat.{ℕ, zero, suc, _+_, _*_, _-_, _/_, _%_, _^_, _≤_, _<_}
+use mathlib.Core.Option.{some}
+use Prim.Native.Nat.{ℕ, suc, _+_, _*_, _-_, _/_, _%_, _^_, _≤_, _<_}
 use native.Mathlib.Nat.{sub-zero}
 use native.Mathlib.Numerals.{add-one}
 use native.Mathlib.Omega.{arith}
 use lib.ListN.{length, take, drop, length-drop}
 use lib.Seq.{take-add, drop-drop, length-take-le}
-use lib.Dec.{leb, eqb}
-use borrow.Author.Tests.{le-leb, lt-leb, eq-eqb, ne-eqb}
+use borrow.Author.Tests.{le-leb, lt-leb}
 use Rattle.rules.specs.declared.Limits.{Limits}
-use Rattle.rules.specs.declared.Limits.the-variants.{Met, Upper, Lower, Sum}
-use Rattle.rules.specs.declared.Fault.{Fault}
-use Rattle.rules.specs.declared.Fault.the-variants.{Kind as NoKind, Position, Street}
+use Rattle.rules.specs.declared.Fault.the-variants.{Kind as NoKind, Position}
 use Rattle.rules.specs.Basic.{keep, orElse}
 use Rattle.rules.specs.Bits.{bits, val, field}
 use Rattle.rules.specs.Street.{counted, limits}
-use Rattle.rules.specs.Sheet.{kindIn, Entry, entry, entryAt}
+use Rattle.rules.specs.Sheet.{kindIn, entry, entryAt}
 use Rattle.rules.specs.Judgement.{broken, faultAt, left}
 use Rattle.rules.proofs.Fields.{val-append, field-lt, length-pack}
 use Rattle.bits.specs.Access.{Got}
@@ -28,9 +25,10 @@ module _ (ku kl i a b : ℕ) where
   unfolding wireFault keep orElse
   wire-past h = rw (le-leb b a h)
 
-  pub wire-limit : a < b → {l : Limits} → limits ku kl (suc a) b ≡ l → wireFault ku kl i a b ≡ broken l i
+  -- r is what the limits were told to be
+  pub wire-limit : a < b → {r l : Limits} → r ≡ limits ku kl (suc a) b → r ≡ l → wireFault ku kl i a b ≡ broken l i
   unfolding wireFault keep orElse
-  wire-limit h e = rw (lt-leb b a h, e)
+  wire-limit h p q = rw (lt-leb b a h, sym p ∙ q)
 
 module _ (ku kl i a b : ℕ) {f : ℕ} where
   -- what a node tells, by its kind field: a B opens a net, an E closes one

@@ -2,7 +2,7 @@
 use crate::reader::read;
 use rules::Reading;
 ghost use mathlib.Core.Path.{_≡_};
-ghost use Prim.Native.Nat.{suc, _<_, _≤_};
+ghost use Prim.Native.Nat.{suc, _<_};
 ghost use lib.Dec.{eqb};
 ghost use Rattle.rules.specs.Basic.{pick};
 ghost use Rattle.rules.specs.Answers.{samePins, agrees as agreeing};

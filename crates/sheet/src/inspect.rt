@@ -5,10 +5,10 @@ use rules::Limits;
 use street::street_limits;
 ghost use mathlib.Core.Path.{_≡_};
 ghost use mathlib.Core.Option.{none};
-ghost use Prim.Native.Nat.{suc, _+_, _*_, _-_, _≤_, _<_};
+ghost use Prim.Native.Nat.{_+_, _*_, _-_, _≤_, _<_};
 ghost use lib.ListN.{length};
 ghost use Rattle.rules.specs.Basic.{orElse};
-ghost use Rattle.rules.specs.Sheet.{countOf, upperOf, lowerOf, size, entryAt, entriesOf, paddingOf};
+ghost use Rattle.rules.specs.Sheet.{entryAt, entriesOf};
 ghost use Rattle.rules.specs.Judgement.{head, faultAt, left, middle, tail, leftOpen, judge};
 ghost use Rattle.sheet.specs.Told.{told, passed, wireFault, kindAt, InSheet};
 
@@ -119,9 +119,10 @@ fn judge_wire(ku: u8, kl: u8, node: usize, above: usize, b: usize, closed: usize
     if b <= above {
         return Passed::Unfit(Fault::Position(node));
     }
+    let left = b - closed;
     let limit = street_limits(ku, kl, above, b);
     match limit {
-        Limits::Met => Passed::Open(b - closed),
+        Limits::Met => Passed::Open(left),
         Limits::Upper => Passed::Unfit(Fault::Street(Limits::Upper, node)),
         Limits::Lower => Passed::Unfit(Fault::Street(Limits::Lower, node)),
         Limits::Sum => Passed::Unfit(Fault::Street(Limits::Sum, node)),

@@ -82,10 +82,11 @@ pub fn touch(s: &[u8], i: usize, order: Order, begun: usize) -> Step
         0 => {
             let label = begun as u8;
             let order = order.insert(above, label);
+            let begun = begun + 1;
             Step {
                 label,
                 order,
-                begun: begun + 1,
+                begun,
             }
         }
         1 => {

@@ -1,10 +1,9 @@
 -- `sheet::agreement::agrees` meets its contract: with room for 512 nodes the reader refuses exactly the sheets with a fault, and else its
 -- row is compared. Assumes nothing.
-use mathlib.Core.Path.{_≡_, sym, ap, _∙_}
-use mathlib.Core.List.{List}
+use mathlib.Core.Path.{sym, ap, _∙_}
 use Prim.Native.Nat.{ℕ}
 use native.Mathlib.Omega.{arith}
-use lib.ListN.{length, replicate, length-replicate}
+use lib.ListN.{replicate, length-replicate}
 use Rattle.rules.specs.Answers.{samePins}
 use Rattle.sheet.proofs.Turns.{row-turn}
 use Rattle.sheet.proofs.Agreements.{agrees-when, agrees-not, unfit-means, short-never, row-means}

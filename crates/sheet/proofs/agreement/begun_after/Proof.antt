@@ -1,5 +1,4 @@
 -- `sheet::agreement::begun_after` meets its contract: one more at the next net. Assumes nothing.
-use mathlib.Core.Path.{_≡_}
 use native.Mathlib.Omega.{arith}
 use borrow.Author.Tests.{eq-eqb, ne-eqb}
 use Rattle.rules.specs.Basic.{pick}

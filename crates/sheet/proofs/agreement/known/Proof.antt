@@ -1,5 +1,4 @@
 -- `sheet::agreement::known` meets its contract: 0 at the next net, else one more than its number. Assumes nothing.
-use mathlib.Core.Path.{_≡_}
 use native.Mathlib.Omega.{arith}
 use borrow.Author.Tests.{eq-eqb, ne-eqb}
 use Rattle.rules.specs.Basic.{pick}

@@ -1,11 +1,10 @@
 -- `sheet::agreement::same_pins` meets its contract. The loop's invariant is `Matched`: on the nodes passed, labels and nets determine each
 -- other. The measure is the number of nodes left. Assumes nothing.
-use mathlib.Core.Path.{_≡_, sym, _∙_}
+use mathlib.Core.Path.{sym, _∙_}
 use Prim.Native.Nat.{_-_}
 use native.Mathlib.Numerals.{add-one}
 use native.Mathlib.Omega.{arith}
-use lib.ListN.{length, getD}
-use Rattle.rules.specs.Row.{SamePins}
+use lib.ListN.{getD}
 use Rattle.rules.proofs.PinsTest.{same-test, other-test}
 use Rattle.sheet.proofs.Matches.{Matched, match-start, match-step, match-fails, match-end}
 use Rattle.sheet.proofs.agreement.same_pins.Statement.{statement}

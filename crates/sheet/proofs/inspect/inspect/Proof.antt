@@ -1,5 +1,5 @@
 -- `sheet::inspect::inspect` meets its contract: a fault of the head, else what the body tells. Assumes nothing.
-use mathlib.Core.Path.{_≡_, sym, ap, _∙_}
+use mathlib.Core.Path.{sym, ap, _∙_}
 use Rattle.rules.specs.Basic.{orElse}
 use Rattle.rules.specs.Judgement.{head, middle, tail, judge}
 use Rattle.sheet.specs.Told.{told}

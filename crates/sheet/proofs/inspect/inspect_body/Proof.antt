@@ -1,5 +1,5 @@
 -- `sheet::inspect::inspect_body` meets its contract: the first fault at a node, else what the end of the sheet tells. Assumes nothing.
-use mathlib.Core.Path.{_≡_, sym, ap, _∙_}
+use mathlib.Core.Path.{sym, ap, _∙_}
 use Rattle.rules.specs.Sheet.{entriesOf}
 use Rattle.rules.specs.Judgement.{middle, tail, leftOpen}
 use Rattle.sheet.specs.Told.{told}

@@ -1,10 +1,7 @@
 -- `sheet::inspect::inspect_head` meets its contract: its tests are those of the definition, in its order. Assumes nothing.
-use mathlib.Core.Path.{_≡_, sym, _∙_}
-use Prim.Native.Nat.{_≤_}
 use native.Mathlib.Omega.{arith}
 use borrow.Author.Needs.{needs}
-use lib.ListN.{length}
-use Rattle.rules.specs.Sheet.{size, countOf}
+use Rattle.rules.specs.Sheet.{size}
 use Rattle.sheet.proofs.Heads.{got-count, got-upper, head-short, head-low, head-high, head-tracks, head-length, head-fine}
 use Rattle.sheet.proofs.Tells.{told-fault, told-none}
 use Rattle.sheet.proofs.inspect.inspect_head.Statement.{statement}

@@ -1,9 +1,8 @@
 -- `sheet::inspect::judge_end` meets its contract: 18, then 19 of one field of at most six bits. Assumes nothing.
-use mathlib.Core.Path.{_≡_, sym, ap, _∙_}
+use mathlib.Core.Path.{sym, ap, _∙_}
 use mathlib.Core.Option.{some}
 use Prim.Native.Nat.{ℕ}
 use native.Mathlib.Omega.{arith}
-use Rattle.rules.specs.declared.Fault.{Fault}
 use Rattle.rules.specs.declared.Fault.the-variants.{Open}
 use Rattle.rules.specs.Sheet.{size}
 use Rattle.sheet.proofs.Heads.{headed, got-count}

@@ -1,9 +1,9 @@
 -- `sheet::inspect::judge_node` meets its contract: both fields are read as one of six bits, and each kind tells what its law says. Assumes nothing.
-use mathlib.Core.Path.{_≡_, sym, ap, _∙_}
+use mathlib.Core.Path.{sym, ap, _∙_}
 use Prim.Native.Nat.{ℕ, _+_, _/_, _%_}
 use native.Mathlib.Omega.{arith}
 use borrow.Author.Needs.{needs}
-use Rattle.rules.specs.Sheet.{Entry, entry, entryAt}
+use Rattle.rules.specs.Sheet.{Entry, entry}
 use Rattle.rules.specs.Judgement.{faultAt, left}
 use Rattle.sheet.specs.declared.inspect.Passed.{Passed}
 use Rattle.sheet.specs.Told.{passed, kindAt}

@@ -1,7 +1,7 @@
 -- `sheet::inspect::judge_nodes` meets its contract. The loop's invariant is `Scanned`: the nodes passed have no fault, and leave b nets
 -- open. The measure is the number of nodes left. Assumes nothing.
-use mathlib.Core.Path.{_≡_, sym, ap, _∙_}
-use Prim.Native.Nat.{ℕ, _+_, _-_}
+use mathlib.Core.Path.{sym, ap, _∙_}
+use Prim.Native.Nat.{_+_, _-_}
 use native.Mathlib.Omega.{arith}
 use borrow.Author.Needs.{needs}
 use Rattle.rules.specs.Sheet.{entryAt, entriesOf}

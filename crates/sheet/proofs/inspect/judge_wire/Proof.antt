@@ -1,5 +1,4 @@
 -- `sheet::inspect::judge_wire` meets its contract: 16, then the limit that `street_limits` tells. Assumes nothing.
-use mathlib.Core.Path.{_≡_, sym, _∙_}
 use Prim.Native.Nat.{_-_}
 use borrow.Author.Needs.{needs}
 use Rattle.rules.specs.Judgement.{broken}
@@ -13,14 +12,14 @@ returns c =
     let a = c .before .args in
     passed-fault (a .b - a .closed) (wire-past (a .ku) (a .kl) (a .node) (a .above) (a .b) (c .if1 .taken))
 
+sub-left : tie.Need-sub-left
+sub-left c = search needs
+
 street-limits-requires : tie.Need-street-limits-requires
 street-limits-requires c κs = search needs
 
 enum-told : tie.Need-enum-told
 enum-told c = search needs
-
-sub-t11 : tie.Need-sub-t11
-sub-t11 c = search needs
 
 enum-told-2 : tie.Need-enum-told-2
 enum-told-2 c = search needs
@@ -36,37 +35,37 @@ unfolding broken
 returns-2 c =
     let a = c .before .before .before .before .args in
     passed-none (a .b - a .closed)
-    (wire-limit (a .ku) (a .kl) (a .node) (a .above) (a .b) (c .before .before .before .if1 .left) (sym (c .before .before .street-limits .ensures) ∙ c .enum-told .given .1))
+    (wire-limit (a .ku) (a .kl) (a .node) (a .above) (a .b) (c .before .before .before .if1 .left) (c .before .before .street-limits .ensures) (c .enum-told .given .1))
 
 returns-3 : tie.Need-returns-3
 unfolding broken
 returns-3 c =
     let a = c .before .before .before .before .args in
     passed-fault (a .b - a .closed)
-    (wire-limit (a .ku) (a .kl) (a .node) (a .above) (a .b) (c .before .before .before .if1 .left) (sym (c .before .before .street-limits .ensures) ∙ c .enum-told2 .given .1))
+    (wire-limit (a .ku) (a .kl) (a .node) (a .above) (a .b) (c .before .before .before .if1 .left) (c .before .before .street-limits .ensures) (c .enum-told2 .given .1))
 
 returns-4 : tie.Need-returns-4
 unfolding broken
 returns-4 c =
     let a = c .before .before .before .before .args in
     passed-fault (a .b - a .closed)
-    (wire-limit (a .ku) (a .kl) (a .node) (a .above) (a .b) (c .before .before .before .if1 .left) (sym (c .before .before .street-limits .ensures) ∙ c .enum-told3 .given .1))
+    (wire-limit (a .ku) (a .kl) (a .node) (a .above) (a .b) (c .before .before .before .if1 .left) (c .before .before .street-limits .ensures) (c .enum-told3 .given .1))
 
 returns-5 : tie.Need-returns-5
 unfolding broken
 returns-5 c =
     let a = c .before .before .before .before .args in
     passed-fault (a .b - a .closed)
-    (wire-limit (a .ku) (a .kl) (a .node) (a .above) (a .b) (c .before .before .before .if1 .left) (sym (c .before .before .street-limits .ensures) ∙ c .enum-told4 .given .1))
+    (wire-limit (a .ku) (a .kl) (a .node) (a .above) (a .b) (c .before .before .before .if1 .left) (c .before .before .street-limits .ensures) (c .enum-told4 .given .1))
 
 pub judge-wire-spec : {M : Type 1} → statement M
 judge-wire-spec =
     tie.close
     (tie.spec
     returns
+    sub-left
     street-limits-requires
     enum-told
-    sub-t11
     enum-told-2
     enum-told-3
     enum-told-4

@@ -1,5 +1,5 @@
 -- `sheet::reader::read` meets its contract: a fault of the head, else what is read behind it. Assumes nothing.
-use mathlib.Core.Path.{_≡_, sym, _∙_}
+use mathlib.Core.Path.{sym, _∙_}
 use Rattle.rules.specs.Judgement.{head}
 use Rattle.sheet.proofs.Tells.{fault-told, none-told}
 use Rattle.sheet.proofs.Readings.{read-head}

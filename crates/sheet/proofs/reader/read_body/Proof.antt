@@ -1,5 +1,5 @@
 -- `sheet::reader::read_body` meets its contract: 14, then the body's faults, and nothing is written before both found none. Assumes nothing.
-use mathlib.Core.Path.{_≡_, sym, _∙_}
+use mathlib.Core.Path.{sym, _∙_}
 use native.Mathlib.Omega.{arith}
 use Rattle.rules.specs.Basic.{orElse}
 use Rattle.rules.specs.Judgement.{middle, tail}

@@ -32,8 +32,8 @@ insert-requires c κs =
     let r = ready-begins t (b .pre .1) in
     (b .pre .1 .sound, r .0, r .1)
 
-add-t17 : tie.Need-add-t17
-add-t17 c =
+add-begun : tie.Need-add-begun
+add-begun c =
     let b = c .before .before .before .before in
     let t = at-begins (got-entry (b .pre .0) (c .before .before .get-bits .ensures)) (c .before .match .keys1) in
     let r = ready-begins t (b .pre .1) in
@@ -85,7 +85,7 @@ touch-spec =
     cast-above
     cast-label
     insert-requires
-    add-t17
+    add-begun
     label-requires
     label-requires-2
     remove-requires

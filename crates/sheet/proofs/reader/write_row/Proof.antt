@@ -2,14 +2,14 @@
 -- far with the sheet's row. The measure is the number of nodes left. Assumes nothing.
 use mathlib.Core.Path.{_≡_, refl, sym, ap, _∙_}
 use mathlib.Core.List.{List}
-use Prim.Native.Nat.{ℕ, _-_, _≤_}
+use Prim.Native.Nat.{ℕ, _-_}
 use native.Mathlib.Omega.{arith}
 use borrow.Author.Needs.{needs}
 use lib.ListN.{length, set}
 use Rattle.rules.specs.Sheet.{countOf, rowOf}
 use Rattle.street.specs.declared.Order.{Order}
 use Rattle.sheet.proofs.Heads.{got-count, in-sheet}
-use Rattle.sheet.proofs.Walks.{sheetly, Walked, walk-start, walk-ready, walk-label, walk-step, length-row}
+use Rattle.sheet.proofs.Walks.{faultless, Walked, walk-start, walk-ready, walk-label, walk-step, length-row}
 use Rattle.sheet.proofs.Fills.{filled, fill-length, fill-step, fill-end}
 use Rattle.sheet.proofs.reader.write_row.Statement.{statement}
 use Rattle.sheet.proofs.reader.write_row.Tie as tie
@@ -27,7 +27,7 @@ abbrev μ-loop : tie.MeasureT-loop
 get-bits-requires : tie.Need-get-bits-requires Inv-loop μ-loop
 get-bits-requires c κs =
     let s = c .before .before .args .s .now in
-    let h = sheetly s (c .before .before .pre .0) .heads in
+    let h = faultless s (c .before .before .pre .0) .heads in
     omega arith
 
 cast-n : tie.Need-cast-n Inv-loop μ-loop
@@ -40,7 +40,7 @@ loop-holds : tie.Need-loop-holds Inv-loop μ-loop
 loop-holds c =
     let a = c .before .before .before .before in
     record {
-      walk = walk-start (a .args .s .now) (c .new .result) (sheetly (a .args .s .now) (a .pre .0)) (c .new .ensures);
+      walk = walk-start (a .args .s .now) (c .new .result) (faultless (a .args .s .now) (a .pre .0)) (c .new .ensures);
       row-so-far = refl;
     }
 
@@ -50,7 +50,7 @@ touch-requires c κs =
     let s = a .args .s .now in
     let l = c .before .loop in
     let n = got-count (c .before .before .before .get-bits .ensures) in
-    let h = sheetly s (a .pre .0) .heads in
+    let h = faultless s (a .pre .0) .heads in
     (in-sheet s h (l .i) (omega arith), walk-ready s (l .i) (omega arith) (l .order) (l .begun) (l .inv .walk) h)
 
 slice-write-row : tie.Need-slice-write-row Inv-loop μ-loop
