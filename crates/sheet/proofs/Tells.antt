@@ -25,26 +25,26 @@ pub passed-none : {o : Option Fault} (b : ℕ) → o ≡ none → Passed.Open b 
 unfolding passed
 passed-none b p = sym (ap (λ o. passed o b) p)
 
--- and what it found, from what was told
-pub fault-told : (o : Option Fault) {e : Fault} → told o ≡ Inspected.Unfit e → o ≡ some e
+-- and what it found, from what r was told to be
+pub fault-told : (o : Option Fault) {r : Inspected} {e : Fault} → r ≡ told o → r ≡ Inspected.Unfit e → o ≡ some e
 unfolding told
-fault-told none p = let z : _≡_ {A = ℕ} 0 1 = cc in absurd (omega arith)
-fault-told (some e′) p = cc
+fault-told none p q = let z : _≡_ {A = ℕ} 0 1 = cc in absurd (omega arith)
+fault-told (some e′) p q = cc
 
-pub none-told : (o : Option Fault) → told o ≡ Inspected.Legal → o ≡ none
+pub none-told : (o : Option Fault) {r : Inspected} → r ≡ told o → r ≡ Inspected.Legal → o ≡ none
 unfolding told
-none-told none p = refl
-none-told (some e′) p = let z : _≡_ {A = ℕ} 0 1 = cc in absurd (omega arith)
+none-told none p q = refl
+none-told (some e′) p q = let z : _≡_ {A = ℕ} 0 1 = cc in absurd (omega arith)
 
-pub fault-passed : (o : Option Fault) (b : ℕ) {e : Fault} → passed o b ≡ Passed.Unfit e → o ≡ some e
+pub fault-passed : (o : Option Fault) (b : ℕ) {r : Passed} {e : Fault} → r ≡ passed o b → r ≡ Passed.Unfit e → o ≡ some e
 unfolding passed
-fault-passed none b p = let z : _≡_ {A = ℕ} 0 1 = cc in absurd (omega arith)
-fault-passed (some e′) b p = cc
+fault-passed none b p q = let z : _≡_ {A = ℕ} 0 1 = cc in absurd (omega arith)
+fault-passed (some e′) b p q = cc
 
-pub none-passed : (o : Option Fault) (b : ℕ) {b′ : ℕ} → passed o b ≡ Passed.Open b′ → (o ≡ none) × (b ≡ b′)
+pub none-passed : (o : Option Fault) (b : ℕ) {r : Passed} {b′ : ℕ} → r ≡ passed o b → r ≡ Passed.Open b′ → (o ≡ none) × (b ≡ b′)
 unfolding passed
-none-passed none b p = (refl, cc)
-none-passed (some e′) b p = let z : _≡_ {A = ℕ} 0 1 = cc in absurd (omega arith)
+none-passed none b p q = (refl, cc)
+none-passed (some e′) b p q = let z : _≡_ {A = ℕ} 0 1 = cc in absurd (omega arith)
 
 -- the first of two findings
 pub after-none : {o : Option Fault} (o′ : Option Fault) → o ≡ none → orElse o o′ ≡ o′

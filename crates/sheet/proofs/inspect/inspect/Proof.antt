@@ -16,7 +16,7 @@ enum-told c = search needs
 
 inspect-body-requires : tie.Need-inspect-body-requires
 inspect-body-requires c κs =
-    none-told (head (c .before .before .before .before .args .s .now)) (sym (c .before .before .inspect-head .ensures) ∙ c .enum-told .given .1)
+    none-told (head (c .before .before .before .before .args .s .now)) (c .before .before .inspect-head .ensures) (c .enum-told .given .1)
 
 enum-known-first : tie.Need-enum-known-first
 enum-known-first c = search needs
@@ -25,14 +25,14 @@ returns : tie.Need-returns
 unfolding judge
 returns c =
     let s = c .before .before .before .before .before .args .s .now in
-    let r = none-told (head s) (sym (c .before .before .before .inspect-head .ensures) ∙ c .before .enum-told .given .1) in
+    let r = none-told (head s) (c .before .before .before .inspect-head .ensures) (c .before .enum-told .given .1) in
     c .inspect-body .ensures ∙ ap told (sym (after-none (orElse (middle s) (tail s)) r))
 
 returns-2 : tie.Need-returns-2
 unfolding judge
 returns-2 c =
     let s = c .before .before .before .before .before .args .s .now in
-    let r = fault-told (head s) (sym (c .before .before .before .inspect-head .ensures) ∙ c .before .first .given .1) in
+    let r = fault-told (head s) (c .before .before .before .inspect-head .ensures) (c .before .first .given .1) in
     told-fault (after-fault (orElse (middle s) (tail s)) r)
 
 pub inspect-spec : {M : Type 1} → statement M

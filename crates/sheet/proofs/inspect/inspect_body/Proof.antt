@@ -17,7 +17,7 @@ enum-known-found c = search needs
 judge-end-requires : tie.Need-judge-end-requires
 judge-end-requires c κs =
     let s = c .before .before .before .before .before .args .s .now in
-    let r = none-passed (middle s) (leftOpen 0 (entriesOf s)) (sym (c .before .before .before .judge-nodes .ensures) ∙ c .before .found .given .1) in
+    let r = none-passed (middle s) (leftOpen 0 (entriesOf s)) (c .before .before .before .judge-nodes .ensures) (c .before .found .given .1) in
     (c .before .before .before .before .before .pre, sym (r .1))
 
 enum-known-found-2 : tie.Need-enum-known-found-2
@@ -26,13 +26,13 @@ enum-known-found-2 c = search needs
 returns : tie.Need-returns
 returns c =
     let s = c .before .before .before .before .before .before .args .s .now in
-    let r = none-passed (middle s) (leftOpen 0 (entriesOf s)) (sym (c .before .before .before .before .judge-nodes .ensures) ∙ c .before .before .found .given .1) in
+    let r = none-passed (middle s) (leftOpen 0 (entriesOf s)) (c .before .before .before .before .judge-nodes .ensures) (c .before .before .found .given .1) in
     c .judge-end .ensures ∙ ap told (sym (after-none (tail s) (r .0)))
 
 returns-2 : tie.Need-returns-2
 returns-2 c =
     let s = c .before .before .before .before .before .args .s .now in
-    let r = fault-passed (middle s) (leftOpen 0 (entriesOf s)) (sym (c .before .before .before .judge-nodes .ensures) ∙ c .before .found2 .given .1) in
+    let r = fault-passed (middle s) (leftOpen 0 (entriesOf s)) (c .before .before .before .judge-nodes .ensures) (c .before .found2 .given .1) in
     told-fault (after-fault (tail s) r)
 
 pub inspect-body-spec : {M : Type 1} → statement M

@@ -64,7 +64,7 @@ loop-again c =
     let n = got-count (c .before .before .before .before .before .before .get-bits3 .ensures) in
     let e = entryAt s (l .i) in
     let r = none-passed (faultAt ku kl (l .i + 1) (l .b) e) (left (kindAt e) (l .b))
-    (sym (c .before .before .before .judge-node .ensures) ∙ c .before .found .given .1) in
+    (c .before .before .before .judge-node .ensures) (c .before .found .given .1) in
     scan-step ku kl s (l .i) (l .b) (omega arith) (l .inv) (r .0) (r .1)
 
 enum-known-found-2 : tie.Need-enum-known-found-2 Inv-loop μ-loop
@@ -79,7 +79,7 @@ returns c =
     let n = got-count (c .before .before .before .before .before .before .get-bits3 .ensures) in
     let e = entryAt s (l .i) in
     let r = fault-passed (faultAt ku kl (l .i + 1) (l .b) e) (left (kindAt e) (l .b))
-    (sym (c .before .before .before .judge-node .ensures) ∙ c .before .found2 .given .1) in
+    (c .before .before .before .judge-node .ensures) (c .before .found2 .given .1) in
     passed-fault (leftOpen 0 (entriesOf s))
     (middle-is ku kl s (got-upper (c .before .before .before .before .before .before .before .before .get-bits .ensures)) (got-lower (c .before .before .before .before .before .before .before .get-bits2 .ensures))
     ∙ scan-fault ku kl s (l .i) (l .b) (omega arith) (l .inv) r)

@@ -1,5 +1,4 @@
 -- `sheet::reader::read` meets its contract: a fault of the head, else what is read behind it. Assumes nothing.
-use mathlib.Core.Path.{sym, _∙_}
 use Rattle.rules.specs.Judgement.{head}
 use Rattle.sheet.proofs.Tells.{fault-told, none-told}
 use Rattle.sheet.proofs.Readings.{read-head}
@@ -15,7 +14,7 @@ enum-told c = search needs
 
 read-body-requires : tie.Need-read-body-requires
 read-body-requires c κs =
-    none-told (head (c .before .before .before .before .before .before .args .s .now)) (sym (c .before .before .before .inspect-head .ensures) ∙ c .before .enum-told .given .1)
+    none-told (head (c .before .before .before .before .before .before .args .s .now)) (c .before .before .before .inspect-head .ensures) (c .before .enum-told .given .1)
 
 enum-known-first : tie.Need-enum-known-first
 enum-known-first c = search needs
@@ -29,7 +28,7 @@ returns c = search needs
 returns-2 : tie.Need-returns-2
 returns-2 c =
     let a = c .before .before .before .before .before .before .args in
-    read-head (a .s .now) (a .row .now) (fault-told (head (a .s .now)) (sym (c .before .before .before .inspect-head .ensures) ∙ c .before .first .given .1))
+    read-head (a .s .now) (a .row .now) (fault-told (head (a .s .now)) (c .before .before .before .inspect-head .ensures) (c .before .first .given .1))
 
 pub read-spec : {M : Type 1} → statement M
 read-spec =

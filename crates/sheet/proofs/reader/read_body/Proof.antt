@@ -1,5 +1,4 @@
 -- `sheet::reader::read_body` meets its contract: 14, then the body's faults, and nothing is written before both found none. Assumes nothing.
-use mathlib.Core.Path.{sym, _∙_}
 use native.Mathlib.Omega.{arith}
 use Rattle.rules.specs.Basic.{orElse}
 use Rattle.rules.specs.Judgement.{middle, tail}
@@ -36,7 +35,7 @@ write-row-requires c κs =
     let a = c .before .before .before .before .before .before .before .before in
     let s = a .args .s .now in
     let n = got-count (c .before .before .before .before .before .get-bits .ensures) in
-    let b = none-told (orElse (middle s) (tail s)) (sym (c .before .before .before .inspect-body .ensures) ∙ c .before .enum-told .given .1) in
+    let b = none-told (orElse (middle s) (tail s)) (c .before .before .before .inspect-body .ensures) (c .before .enum-told .given .1) in
     (judged s (a .pre) b, omega arith)
 
 enum-known-found : tie.Need-enum-known-found
@@ -50,7 +49,7 @@ returns-2 c =
     let a = c .before .before .before .before .before .before .before .before .before .before .before in
     let s = a .args .s .now in
     let n = got-count (c .before .before .before .before .before .before .before .before .get-bits .ensures) in
-    let b = none-told (orElse (middle s) (tail s)) (sym (c .before .before .before .before .before .before .inspect-body .ensures) ∙ c .before .before .before .before .enum-told .given .1) in
+    let b = none-told (orElse (middle s) (tail s)) (c .before .before .before .before .before .before .inspect-body .ensures) (c .before .before .before .before .enum-told .given .1) in
     read-fine s (a .args .row .now) (a .pre) (omega arith) b n (c .before .before .write-row .ensures)
 
 returns-3 : tie.Need-returns-3
@@ -58,7 +57,7 @@ returns-3 c =
     let a = c .before .before .before .before .before .before .before .before in
     let s = a .args .s .now in
     let n = got-count (c .before .before .before .before .before .get-bits .ensures) in
-    let b = fault-told (orElse (middle s) (tail s)) (sym (c .before .before .before .inspect-body .ensures) ∙ c .before .found .given .1) in
+    let b = fault-told (orElse (middle s) (tail s)) (c .before .before .before .inspect-body .ensures) (c .before .found .given .1) in
     read-unfit s (a .args .row .now) (a .pre) (omega arith) b
 
 pub read-body-spec : {M : Type 1} → statement M
