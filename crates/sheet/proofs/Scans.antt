@@ -14,7 +14,9 @@ use Rattle.rules.specs.Sheet.{kindIn, Entry, entry, upperOf, lowerOf, countOf, 
 use Rattle.rules.specs.Judgement.{faultAt, left, scan, leftOpen, middle}
 use Rattle.rules.proofs.Pins.{length-tabulate, getD-tabulate}
 use Rattle.rules.proofs.SheetFields.{length-entriesOf}
-use Rattle.sheet.specs.Told.{kindAt}
+use Rattle.sheet.specs.declared.inspect.Passed.{Passed}
+use Rattle.sheet.specs.Told.{passed, kindAt}
+use Rattle.sheet.proofs.Tells.{fault-passed, none-passed}
 
 -- the entries from node i on are its own and those after it
 pub entries-from : (s : List ℕ) (i : ℕ) → i < countOf s → drop i (entriesOf s) ≡ entryAt s i ∷ drop (suc i) (entriesOf s)
@@ -67,24 +69,28 @@ module _ (ku kl : ℕ) (s : List ℕ) where
         ∙ ap (scan ku kl (i + 1) b) (sym (entries-from s i h))
         ∙ m .same
 
-    pub scan-fault : {e : Fault} → faultAt ku kl (i + 1) b (entryAt s i) ≡ some e → scan ku kl 1 0 (entriesOf s) ≡ some e
-    unfolding orElse
-    scan-fault p = sym here ∙ rw p
+    -- r was told at node i
+    module _ {r : Passed} (told : r ≡ passed (faultAt ku kl (i + 1) b (entryAt s i)) (left (kindAt (entryAt s i)) b)) where
+      pub scan-fault : {e : Fault} → r ≡ Passed.Unfit e → scan ku kl 1 0 (entriesOf s) ≡ some e
+      unfolding orElse
+      scan-fault q = sym here ∙ rw (fault-passed (faultAt ku kl (i + 1) b (entryAt s i)) (left (kindAt (entryAt s i)) b) told q)
 
-    pub scan-step : {b′ : ℕ} → faultAt ku kl (i + 1) b (entryAt s i) ≡ none → left (kindAt (entryAt s i)) b ≡ b′ → Scanned ku kl s (i + 1) b′
-    unfolding orElse
-    scan-step {b′} p q =
-        record {
-          within = omega arith;
-          few = omega (arith, left-le b (entryAt s i), m .few);
-          same = ap₂ (λ (j k : ℕ). scan ku kl j b′ (drop k (entriesOf s))) (add-one (i + 1)) (add-one i) ∙ (rw (p, q) at here);
-          rest =
-              ap (λ (k : ℕ). leftOpen b′ (drop k (entriesOf s))) (add-one i)
-              ∙ ap (λ (x : ℕ). leftOpen x (drop (suc i) (entriesOf s))) (sym q)
-              ∙ sym (open-cons b (entryAt s i) (drop (suc i) (entriesOf s)))
-              ∙ ap (leftOpen b) (sym (entries-from s i h))
-              ∙ m .rest;
-        }
+      pub scan-step : {b′ : ℕ} → r ≡ Passed.Open b′ → Scanned ku kl s (i + 1) b′
+      unfolding orElse
+      scan-step {b′} o =
+          let w = none-passed (faultAt ku kl (i + 1) b (entryAt s i)) (left (kindAt (entryAt s i)) b) told o in
+          let q = w .1 in
+          record {
+            within = omega arith;
+            few = omega (arith, left-le b (entryAt s i), m .few);
+            same = ap₂ (λ (j k : ℕ). scan ku kl j b′ (drop k (entriesOf s))) (add-one (i + 1)) (add-one i) ∙ (rw (w .0, q) at here);
+            rest =
+                ap (λ (k : ℕ). leftOpen b′ (drop k (entriesOf s))) (add-one i)
+                ∙ ap (λ (x : ℕ). leftOpen x (drop (suc i) (entriesOf s))) (sym q)
+                ∙ sym (open-cons b (entryAt s i) (drop (suc i) (entriesOf s)))
+                ∙ ap (leftOpen b) (sym (entries-from s i h))
+                ∙ m .rest;
+          }
 
   pub scan-end : (i b : ℕ) → i ≡ countOf s → Scanned ku kl s i b → (scan ku kl 1 0 (entriesOf s) ≡ none) × (leftOpen 0 (entriesOf s) ≡ b)
   unfolding scan leftOpen

@@ -101,9 +101,10 @@ fn judge_node(s: &[u8], ku: u8, kl: u8, i: usize, b: usize) -> Passed
     ensures { λ r. ⌜ r ≡ passed (faultAt ku kl (i + 1) b (entryAt (now (s .entry)) i)) (left (kindAt (entryAt (now (s .entry)) i)) b) ⌝ }
 {
     let fields = get_bits(s, 16 + 6 * i, 6);
+    let kind = fields / 16;
     let above = (fields % 16) as usize;
     let node = i + 1;
-    match fields / 16 {
+    match kind {
         0 => judge_wire(ku, kl, node, above, b + 1, 0),
         1 => judge_wire(ku, kl, node, above, b, 0),
         2 => judge_wire(ku, kl, node, above, b, 1),

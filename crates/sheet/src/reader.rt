@@ -77,8 +77,9 @@ pub fn touch(s: &[u8], i: usize, order: Order, begun: usize) -> Step
     ensures { λ r. ⌜ Touched (entryAt (now (s .entry)) i) order begun r ⌝ }
 {
     let fields = get_bits(s, 16 + 6 * i, 6);
+    let kind = fields / 16;
     let above = (fields % 16) as usize;
-    match fields / 16 {
+    match kind {
         0 => {
             let label = begun as u8;
             let order = order.insert(above, label);

@@ -1,15 +1,15 @@
 -- `sheet::inspect::judge_nodes` meets its contract. The loop's invariant is `Scanned`: the nodes passed have no fault, and leave b nets
 -- open. The measure is the number of nodes left. Assumes nothing.
 use mathlib.Core.Path.{sym, ap, _∙_}
-use Prim.Native.Nat.{_+_, _-_}
+use Prim.Native.Nat.{_-_}
 use native.Mathlib.Omega.{arith}
 use borrow.Author.Needs.{needs}
-use Rattle.rules.specs.Sheet.{entryAt, entriesOf}
-use Rattle.rules.specs.Judgement.{faultAt, left, leftOpen, middle}
-use Rattle.sheet.specs.Told.{passed, kindAt}
+use Rattle.rules.specs.Sheet.{entriesOf}
+use Rattle.rules.specs.Judgement.{leftOpen, middle}
+use Rattle.sheet.specs.Told.{passed}
 use Rattle.sheet.proofs.Heads.{headed, got-upper, got-lower, got-count, in-sheet}
 use Rattle.sheet.proofs.Scans.{Scanned, scan-start, scan-step, scan-fault, scan-end, middle-is}
-use Rattle.sheet.proofs.Tells.{passed-fault, passed-none, fault-passed, none-passed}
+use Rattle.sheet.proofs.Tells.{passed-fault, passed-none}
 use Rattle.sheet.proofs.inspect.judge_nodes.Statement.{statement}
 use Rattle.sheet.proofs.inspect.judge_nodes.Tie as tie
 
@@ -57,15 +57,9 @@ loop-less c = omega arith
 
 loop-again : tie.Need-loop-again Inv-loop μ-loop
 loop-again c =
-    let s = c .before .before .before .before .before .before .before .before .before .before .args .s .now in
-    let ku = c .before .before .before .before .before .before .before .before .get-bits .result in
-    let kl = c .before .before .before .before .before .before .before .get-bits2 .result in
     let l = c .before .before .before .before .before .loop in
     let n = got-count (c .before .before .before .before .before .before .get-bits3 .ensures) in
-    let e = entryAt s (l .i) in
-    let r = none-passed (faultAt ku kl (l .i + 1) (l .b) e) (left (kindAt e) (l .b))
-    (c .before .before .before .judge-node .ensures) (c .before .found .given .1) in
-    scan-step ku kl s (l .i) (l .b) (omega arith) (l .inv) (r .0) (r .1)
+    scan-step (c .before .before .before .before .before .before .before .before .get-bits .result) (c .before .before .before .before .before .before .before .get-bits2 .result) (c .before .before .before .before .before .before .before .before .before .before .args .s .now) (l .i) (l .b) (omega arith) (l .inv) (c .before .before .before .judge-node .ensures) (c .before .found .given .1)
 
 enum-known-found-2 : tie.Need-enum-known-found-2 Inv-loop μ-loop
 enum-known-found-2 c = c .match .keys2
@@ -73,16 +67,11 @@ enum-known-found-2 c = c .match .keys2
 returns : tie.Need-returns Inv-loop μ-loop
 returns c =
     let s = c .before .before .before .before .before .before .before .before .before .before .args .s .now in
-    let ku = c .before .before .before .before .before .before .before .before .get-bits .result in
-    let kl = c .before .before .before .before .before .before .before .get-bits2 .result in
     let l = c .before .before .before .before .before .loop in
     let n = got-count (c .before .before .before .before .before .before .get-bits3 .ensures) in
-    let e = entryAt s (l .i) in
-    let r = fault-passed (faultAt ku kl (l .i + 1) (l .b) e) (left (kindAt e) (l .b))
-    (c .before .before .before .judge-node .ensures) (c .before .found2 .given .1) in
     passed-fault (leftOpen 0 (entriesOf s))
-    (middle-is ku kl s (got-upper (c .before .before .before .before .before .before .before .before .get-bits .ensures)) (got-lower (c .before .before .before .before .before .before .before .get-bits2 .ensures))
-    ∙ scan-fault ku kl s (l .i) (l .b) (omega arith) (l .inv) r)
+    (middle-is (c .before .before .before .before .before .before .before .before .get-bits .result) (c .before .before .before .before .before .before .before .get-bits2 .result) s (got-upper (c .before .before .before .before .before .before .before .before .get-bits .ensures)) (got-lower (c .before .before .before .before .before .before .before .get-bits2 .ensures))
+    ∙ scan-fault (c .before .before .before .before .before .before .before .before .get-bits .result) (c .before .before .before .before .before .before .before .get-bits2 .result) (c .before .before .before .before .before .before .before .before .before .before .args .s .now) (l .i) (l .b) (omega arith) (l .inv) (c .before .before .before .judge-node .ensures) (c .before .found2 .given .1))
 
 returns-2 : tie.Need-returns-2 Inv-loop μ-loop
 returns-2 c =

@@ -1,12 +1,13 @@
 -- `sheet::reader::write_row` meets its contract. The loop's invariant: the walk has come to node i (`Walked`), and the buffer is filled so
 -- far with the sheet's row. The measure is the number of nodes left. Assumes nothing.
-use mathlib.Core.Path.{_≡_, refl, sym, ap, _∙_}
+use mathlib.Core.Path.{_≡_, refl, ap, _∙_}
 use mathlib.Core.List.{List}
-use Prim.Native.Nat.{ℕ, _-_}
+use Prim.Native.Nat.{ℕ, _-_, _≤_}
 use native.Mathlib.Omega.{arith}
 use borrow.Author.Needs.{needs}
 use lib.ListN.{length, set}
 use Rattle.rules.specs.Sheet.{countOf, rowOf}
+use Rattle.rules.specs.Answers.{written}
 use Rattle.street.specs.declared.Order.{Order}
 use Rattle.sheet.proofs.Heads.{got-count, in-sheet}
 use Rattle.sheet.proofs.Walks.{faultless, Walked, walk-start, walk-ready, walk-label, walk-step, length-row}
@@ -17,6 +18,15 @@ use Rattle.sheet.proofs.reader.write_row.Tie as tie
 record Writing (s row₀ row : List ℕ) (i : ℕ) (o : Order) (n : ℕ) : Type 0 where
   walk : Walked s i o n
   row-so-far : row ≡ filled (rowOf s) row₀ i
+
+-- past the last node the buffer starts with the whole row
+whole : (s row₀ : List ℕ) {row : List ℕ} {i : ℕ} {o : Order} {begun : ℕ} (n : ℕ) → n ≡ countOf s → n ≤ i → countOf s ≤ length row₀
+    → Writing s row₀ row i o begun → (length row ≡ length row₀) × (row ≡ written (rowOf s) row₀)
+whole s row₀ {i = i} n e p l w =
+    let i≡ : i ≡ length (rowOf s) = omega (arith, w .walk .within, length-row s) in (
+      ap length (w .row-so-far) ∙ fill-length (rowOf s) row₀ i (omega arith) (omega (arith, length-row s)),
+      w .row-so-far ∙ fill-end (rowOf s) row₀ i i≡,
+    )
 
 abbrev Inv-loop : tie.InvT-loop
 Inv-loop s row₀ n order₀ begun₀ i₀ row order begun i = Writing s row₀ row i order begun
@@ -88,23 +98,14 @@ loop-again c =
 same-length : tie.Need-same-length Inv-loop μ-loop
 same-length c =
     let a = c .before .before .before .before .before .before in
-    let s = a .args .s .now in
-    let row₀ = a .args .row .now in
-    let l = c .before .loop in
-    let n = got-count (c .before .before .before .get-bits .ensures) in
-    let i : l .i ≡ countOf s = omega (arith, l .inv .walk .within) in
-    ap length (l .inv .row-so-far)
-    ∙ fill-length (rowOf s) row₀ (l .i) (omega (arith, length-row s)) (omega (arith, a .pre .1))
+    let g = c .before .before .before .get-bits in
+    whole (a .args .s .now) (a .args .row .now) (g .result) (got-count (g .ensures)) (c .loop-test .left) (a .pre .1) (c .before .loop .inv) .0
 
 returns : tie.Need-returns Inv-loop μ-loop
 returns c =
     let a = c .before .before .before .before .before .before in
-    let s = a .args .s .now in
-    let row₀ = a .args .row .now in
-    let l = c .before .loop in
-    let n = got-count (c .before .before .before .get-bits .ensures) in
-    let i : l .i ≡ countOf s = omega (arith, l .inv .walk .within) in
-    l .inv .row-so-far ∙ fill-end (rowOf s) row₀ (l .i) (i ∙ sym (length-row s))
+    let g = c .before .before .before .get-bits in
+    whole (a .args .s .now) (a .args .row .now) (g .result) (got-count (g .ensures)) (c .loop-test .left) (a .pre .1) (c .before .loop .inv) .1
 
 pub write-row-spec : {M : Type 1} → statement M
 write-row-spec =
