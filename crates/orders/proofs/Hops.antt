@@ -14,7 +14,12 @@ use Rattle.rules.specs.Judgement.{left}
 use Rattle.rules.proofs.Fits.{Fits, fits→, →fits}
 use Rattle.orders.specs.Plan.{Step, step}
 use Rattle.orders.specs.Ranks.{fact, atOf, lessOf, hopOf}
-use Rattle.orders.proofs.Ranks.{rank-lt, less-lt}
+use Rattle.orders.specs.Sets.{ranks}
+use Rattle.orders.specs.Stops.{hopAt, told, Sound}
+use Rattle.orders.specs.Passes.{positions}
+use Rattle.orders.specs.declared.rank.Stop.{Stop}
+use Rattle.orders.specs.declared.rank.Landing.the-variants.{To, Nowhere}
+use Rattle.orders.proofs.Ranks.{rank-lt, less-lt, fact-six}
 
 pub of-true : {b : Bool} → b ≡ true → T b
 of-true e = rw e tt
@@ -89,16 +94,11 @@ fit-small ku kl p b e hu hl =
     let f : Fits ku kl (suc p) b = fits-fits ku kl (suc p) b e in
     omega arith
 
--- a rank of b nets, at a step that finds them and touches one of them
-pub record Ready (k a b r : ℕ) : Type 0 where
-  pub few : b ≤ 6
-  pub touched : 0 < k → a < b
-  pub rank : r < fact b
-
 -- what a hop that is made says
 pub record Made (ku kl k a b r p x : ℕ) : Type 0 where
   pub kind : k < 3
   pub room : p < ku + kl
+  pub left-open : left (kindIn k) b ≤ ku + kl
   pub lands : (0 < k → a < b) → r < fact b → x < fact (left (kindIn k) b)
 
 kept : {A : Type 0} (t : Bool) (x y : A) → keep t x ≡ some y → (t ≡ true) × (x ≡ y)
@@ -115,13 +115,33 @@ unfolding hopOf left kindIn
 hop-made ku kl zero a b r p x e =
     let (t, q) = kept (fits ku kl (suc p) (suc b)) (p * fact b + r) x e in
     let f : Fits ku kl (suc p) (suc b) = fits-fits ku kl (suc p) (suc b) t in
-    record { kind = omega arith; room = omega arith; lands = λ h l. rw (← q) (rank-lt p b r (omega arith) l) }
+    record { kind = omega arith; room = omega arith; left-open = omega arith; lands = λ h l. rw (← q) (rank-lt p b r (omega arith) l) }
 hop-made ku kl (suc zero) a b r p x e =
     let (t, q) = kept (eqb p (atOf a b r) && fits ku kl (suc p) b) r x e in
     let f : Fits ku kl (suc p) b = fits-fits ku kl (suc p) b (both (eqb p (atOf a b r)) (fits ku kl (suc p) b) t .1) in
-    record { kind = omega arith; room = omega arith; lands = λ h l. rw (← q) l }
+    record { kind = omega arith; room = omega arith; left-open = omega arith; lands = λ h l. rw (← q) l }
 hop-made ku kl (suc (suc zero)) a b r p x e =
     let (t, q) = kept (eqb p (atOf a b r) && fits ku kl (suc p) b) (lessOf a b r) x e in
     let f : Fits ku kl (suc p) b = fits-fits ku kl (suc p) b (both (eqb p (atOf a b r)) (fits ku kl (suc p) b) t .1) in
-    record { kind = omega arith; room = omega arith; lands = λ h l. rw (← q) (less-lt a b r (h (omega arith)) l) }
+    record { kind = omega arith; room = omega arith; left-open = omega arith; lands = λ h l. rw (← q) (less-lt a b r (h (omega arith)) l) }
 hop-made ku kl (suc (suc (suc k))) a b r p x e = let z : _≡_ {A = ℕ} 0 1 = cc in absurd (omega arith)
+
+-- at a sound stop a hop has one of six positions, and lands on a rank of the gap
+pub stop-lands : (t : Stop) (r p x : ℕ) → Sound t → r < fact (t .count) → hopAt t r p ≡ some x → (p < positions) × (x < ranks)
+stop-lands t r p x h l e =
+    let m = hop-made (t .ku) (t .kl) (t .kind) (t .age) (t .count) r p x e in
+    (omega arith, omega (arith, m .lands (h .touched) l, fact-six (left (kindIn (t .kind)) (t .count)) (omega arith)))
+
+pub told-to : (o : Option ℕ) (x : ℕ) → To x ≡ told o → o ≡ some x
+told-to none x e = let z : _≡_ {A = ℕ} 0 1 = cc in absurd (omega arith)
+told-to (some y) x e = cc
+
+pub told-nowhere : (o : Option ℕ) → Nowhere ≡ told o → o ≡ none
+told-nowhere none e = refl
+told-nowhere (some y) e = let z : _≡_ {A = ℕ} 0 1 = cc in absurd (omega arith)
+
+pub none-some : {A : Type 0} {o : Option ℕ} {x : ℕ} → o ≡ none → o ≡ some x → A
+none-some e f = let z : _≡_ {A = ℕ} 0 1 = cc in absurd (omega arith)
+
+pub same-some : {o : Option ℕ} {x y : ℕ} → o ≡ some x → o ≡ some y → x ≡ y
+same-some e f = cc

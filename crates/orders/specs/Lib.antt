@@ -2,3 +2,4 @@ pub mod Plan
 pub mod Ranks
 pub mod Sets
 pub mod Stops
+pub mod Passes

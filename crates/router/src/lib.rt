@@ -1,0 +1,3 @@
+// The router: a row and two street widths to the first placing's sheet, or a true refusal.
+mod search;
+mod walk;
