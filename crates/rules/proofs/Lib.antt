@@ -8,6 +8,7 @@ pub mod Search
 pub mod Failing
 pub mod Choices
 pub mod Pins
+pub mod PinsTest
 pub mod Open
 pub mod NoPlacing
 pub mod Legal
