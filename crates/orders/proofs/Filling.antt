@@ -1,19 +1,17 @@
 -- The gaps passed hold exactly the ranks of ways, node by node; where the next gap stays empty no way goes on.
-use mathlib.Core.Path.{_≡_, refl, sym, ap, _∙_}
-use mathlib.Core.Bool.{Bool, true, false}
-use mathlib.Core.List.{List, []}
-use mathlib.Core.Logic.{_⊎_, inl, inr, ⊎-elim}
+use mathlib.Core.Path.{_≡_, refl, sym, _∙_}
+use mathlib.Core.Bool.{true}
+use mathlib.Core.List.{List}
+use mathlib.Core.Logic.{⊎-elim}
 use Prim.Native.Nat.{ℕ, zero, suc, _+_, _≤_, _<_}
 use native.Mathlib.Numerals.{add-one}
 use native.Mathlib.Omega.{arith}
-use lib.ListN.{length, getD, take, drop}
-use lib.Dec.{eqb}
+use lib.ListN.{length, getD, take}
 use borrow.Author.Tests.{eqb-true, eq-eqb}
-use Rattle.orders.specs.declared.rank.Stop.{Stop}
 use Rattle.orders.specs.Plan.{Step, steps}
-use Rattle.orders.specs.Ranks.{fact, Way}
+use Rattle.orders.specs.Ranks.{Way}
 use Rattle.orders.specs.Sets.{ranks, marked, source, Gains, Empty, Some, Clear}
-use Rattle.orders.specs.Passes.{Leads, Reached, Given, Filled, Passes, Forward}
+use Rattle.orders.specs.Passes.{Reached, Given, Filled, Passes, Forward}
 use Rattle.orders.proofs.Ranks.{fact-six}
 use Rattle.orders.proofs.Bits.{clear-empty}
 use Rattle.orders.proofs.Spreading.{last-or}

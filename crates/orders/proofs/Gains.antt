@@ -3,13 +3,12 @@ use mathlib.Core.Path.{_≡_, refl, sym, _∙_}
 use mathlib.Core.Bool.{Bool, true, false}
 use mathlib.Core.List.{List}
 use mathlib.Core.Logic.{_⊎_, inl, inr, ⊎-elim}
-use Prim.Native.Nat.{ℕ, zero, suc, _+_, _≤_, _<_}
+use Prim.Native.Nat.{ℕ, zero, suc, _<_}
 use native.Mathlib.Omega.{arith}
-use lib.ListN.{length}
-use lib.Dec.{eqb, ltb}
+use lib.Dec.{eqb}
 use borrow.Author.Tests.{eqb-true, eqb-false}
 use Rattle.orders.specs.Sets.{ranks, marked, source, Set, Gains, Loses}
-use Rattle.orders.proofs.Bits.{not-both, source-gap}
+use Rattle.orders.proofs.Bits.{not-both}
 
 module _ (s : List ℕ) (g : ℕ) where
   pub gains-none : (P : ℕ → Type 0) → ((x : ℕ) → P x → ⊥) → Gains s g P s

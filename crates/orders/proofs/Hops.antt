@@ -1,18 +1,17 @@
 -- A hop is made exactly where the street rules allow it, and leads to a rank of the nets that are then open.
-use mathlib.Core.Path.{_≡_, refl, sym, ap, _∙_}
+use mathlib.Core.Path.{_≡_, refl}
 use mathlib.Core.Bool.{Bool, true, false, _&&_}
-use mathlib.Core.List.{List, [], _∷_}
 use mathlib.Core.Option.{Option, none, some}
-use Prim.Native.Nat.{ℕ, zero, suc, _+_, _-_, _*_, _≤_, _<_}
+use Prim.Native.Nat.{ℕ, zero, suc, _+_, _*_, _≤_, _<_}
 use native.Mathlib.Omega.{arith}
 use lib.Dec.{T, eqb}
-use borrow.Author.Tests.{eq-eqb, ne-eqb, eqb-true}
+use borrow.Author.Tests.{eq-eqb, ne-eqb}
 use Rattle.rules.specs.Basic.{keep}
 use Rattle.rules.specs.Street.{fits}
 use Rattle.rules.specs.Sheet.{kindIn}
 use Rattle.rules.specs.Judgement.{left}
 use Rattle.rules.proofs.Fits.{Fits, fits→, →fits}
-use Rattle.orders.specs.Plan.{Step, step}
+use Rattle.orders.specs.Plan.{step}
 use Rattle.orders.specs.Ranks.{fact, atOf, lessOf, hopOf}
 use Rattle.orders.specs.Sets.{ranks}
 use Rattle.orders.specs.Stops.{hopAt, told, Sound}

@@ -1,17 +1,16 @@
 -- The stops that the passes make of the three lists are sound, and ways go on through them.
-use mathlib.Core.Path.{_≡_, refl, sym, ap, _∙_}
-use mathlib.Core.List.{List, [], _∷_}
-use Prim.Native.Nat.{ℕ, suc, _+_, _≤_, _<_}
-use native.Mathlib.Omega.{arith}
+use mathlib.Core.Path.{_≡_}
+use mathlib.Core.List.{List, _∷_}
+use Prim.Native.Nat.{ℕ, suc, _<_}
 use lib.ListN.{length, getD, take, drop}
 use lib.Seq.{drop-cons}
 use Rattle.orders.specs.declared.rank.Stop.{Stop}
-use Rattle.orders.specs.Plan.{Step, step, Steps, steps}
+use Rattle.orders.specs.Plan.{Step, step, steps}
 use Rattle.orders.specs.Ranks.{fact, Way, Ahead}
 use Rattle.orders.specs.Sets.{ranks}
 use Rattle.orders.specs.Stops.{stepOf, Sound}
 use Rattle.orders.specs.Passes.{Leads, Given, Passes}
-use Rattle.orders.proofs.Ways.{Hopped, Ready, way-more, way-less, ahead-more, ahead-less, way-ready, way-below, passes-take, steps-length, steps-at}
+use Rattle.orders.proofs.Ways.{Hopped, way-more, way-less, ahead-more, ahead-less, way-ready, way-below, passes-take, steps-length, steps-at}
 
 -- node i of three lists
 abbrev pub stopOf : (ks xs cs : List ℕ) (ku kl i : ℕ) → Stop

@@ -1,26 +1,25 @@
 -- The least position that leads on, taken node by node, gives the first positions in reading order that lead through all nodes.
-use mathlib.Core.Path.{_≡_, refl, sym, ap, _∙_}
+use mathlib.Core.Path.{_≡_, refl, sym, _∙_}
 use mathlib.Core.Bool.{Bool, true, false}
 use mathlib.Core.List.{List, [], _∷_, _++_, append-nil}
-use mathlib.Core.Logic.{_⊎_, inl, inr, ⊎-elim}
+use mathlib.Core.Logic.{_⊎_, inl, inr}
 use mathlib.Core.Option.{some}
-use Prim.Native.Nat.{ℕ, zero, suc, _+_, _≤_, _<_}
+use Prim.Native.Nat.{ℕ, suc, _+_, _≤_, _<_}
 use native.Mathlib.Numerals.{add-one}
 use native.Mathlib.Omega.{arith}
-use lib.ListN.{length, getD, take, drop, set, length-set, drop-of-length-le}
+use lib.ListN.{length, take, drop, set, length-set, drop-of-length-le}
 use lib.Seq.{take-suc-set, append-snoc, drop-cons}
 use lib.Dec.{eqb, ltb}
 use borrow.Author.Tests.{eqb-true, eqb-false, ltb-true, ltb-false}
 use Rattle.rules.specs.Street.{Earlier, here, there}
 use Rattle.orders.specs.Plan.{Step, step, steps}
-use Rattle.orders.specs.Ranks.{fact, hopOf, hops, Way, Ahead}
-use Rattle.orders.specs.Sets.{ranks, marked}
-use Rattle.orders.specs.Stops.{stepOf, hopAt, Sound}
-use Rattle.orders.specs.Passes.{Leads, Misses, Least, Given, Kept, Passes, First, Picked}
-use Rattle.orders.specs.declared.pass.Positions.{Positions}
+use Rattle.orders.specs.Ranks.{hopOf, hops, Way, Ahead}
+use Rattle.orders.specs.Sets.{marked}
+use Rattle.orders.specs.Stops.{stepOf, hopAt}
+use Rattle.orders.specs.Passes.{Misses, Least, Given, Kept, Passes, First}
 use Rattle.orders.proofs.Hops.{same-some}
 use Rattle.orders.proofs.Ways.{hops-nil, hops-start, hops-first, first-hops, way-start, passes-ahead, steps-length, steps-at}
-use Rattle.orders.proofs.Nodes.{stopOf, way-on, ahead-back, stop-ready}
+use Rattle.orders.proofs.Nodes.{stopOf, way-on, ahead-back}
 
 module _ (ku kl : ℕ) where
   pub first-none : (r : ℕ) → First ku kl [] r []

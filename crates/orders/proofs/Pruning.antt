@@ -1,18 +1,17 @@
 -- Ranks of a gap looked at one by one are left exactly where the next node leads on; gap by gap, from the last, so that all the rest can be passed.
 use mathlib.Core.Path.{_≡_, refl, sym, ap, _∙_}
 use mathlib.Core.Bool.{Bool, true, false}
-use mathlib.Core.List.{List, []}
+use mathlib.Core.List.{List}
 use Prim.Native.Nat.{ℕ, suc, _+_, _≤_, _<_}
 use native.Mathlib.Omega.{arith}
-use lib.ListN.{length, getD, take, drop, drop-of-length-le}
+use lib.ListN.{length, getD, drop, drop-of-length-le}
 use lib.Dec.{eqb}
 use borrow.Author.Tests.{eqb-true, eqb-false}
 use Rattle.orders.specs.declared.rank.Stop.{Stop}
 use Rattle.orders.specs.Plan.{Step, steps}
-use Rattle.orders.specs.Ranks.{fact, Way, Ahead}
+use Rattle.orders.specs.Ranks.{fact, Ahead}
 use Rattle.orders.specs.Sets.{ranks, marked, Set, Loses}
-use Rattle.orders.specs.Stops.{Sound}
-use Rattle.orders.specs.Passes.{Leads, Onward, Misses, Least, Given, Filled, Passes, Pruned, Kept}
+use Rattle.orders.specs.Passes.{Onward, Misses, Least, Given, Filled, Pruned}
 use Rattle.orders.proofs.Bits.{not-both}
 use Rattle.orders.proofs.Gains.{loses-none, loses-map, loses-one, loses-join}
 use Rattle.orders.proofs.Spreading.{last-or}
@@ -149,9 +148,3 @@ module _ (ks xs cs : List ℕ) (ku kl : ℕ) (s₀ : List ℕ) (given : Given ks
         sound = λ g x h. f .sound g x (omega arith) (omega arith);
         full = λ g x h. f .full g x (omega arith) (omega arith);
       }
-
--- pruned after the pass forward: the marks are the ranks of ways that lead on through all the steps
-pub pruned-kept : (ku kl : ℕ) (ss : List Step) (s t : List ℕ) → ((g x : ℕ) → Way ku kl (take (suc g) ss) x → x < ranks) →
-    Filled ku kl ss (length ss) s → Pruned ku kl ss s t → Kept ku kl ss t
-pruned-kept ku kl ss s t b f p =
-    record { sound = p .sound; full = λ g x l w a. p .full g x l (b g x w) (f .full g x l w) a }

@@ -7,11 +7,11 @@ use native.Mathlib.Nat.{mod-lt, div-lt-iff-lt-mul, mul-add-div-right, mul-add-mo
 use native.Mathlib.Omega.{arith}
 use lib.ListN.{length, getD}
 use lib.Dec.{leb, eqb}
-use borrow.Author.Tests.{leb-true, leb-false, le-leb, lt-leb, eq-eqb, ne-eqb, eqb-true, eqb-false}
+use borrow.Author.Tests.{leb-true, leb-false, le-leb, lt-leb, eq-eqb, ne-eqb}
 use Rattle.rules.specs.Basic.{pick, put, cut}
 use Rattle.rules.specs.Row.{before}
 use Rattle.rules.proofs.Lists.{length-put, length-cut, cut-put}
-use Rattle.rules.proofs.Open.{one, one-same, one-other, times, times-put}
+use Rattle.rules.proofs.Open.{one, one-same, times, times-put}
 use Rattle.orders.specs.Ranks.{fact, orderOf, under, spared, atOf, lessOf}
 
 pub fact-pos : (n : ℕ) → 0 < fact n

@@ -8,7 +8,7 @@ use crate::set::mark;
 ghost use mathlib.Core.Path.{_≡_};
 ghost use mathlib.Core.Bool.{true};
 ghost use mathlib.Core.Option.{some};
-ghost use Prim.Native.Nat.{ℕ, suc, _*_, _≤_, _<_};
+ghost use Prim.Native.Nat.{suc, _*_, _≤_, _<_};
 ghost use lib.ListN.{length};
 ghost use Rattle.orders.specs.Ranks.{fact};
 ghost use Rattle.orders.specs.Sets.{stretch, source, Gains};

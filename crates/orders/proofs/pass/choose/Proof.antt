@@ -2,8 +2,7 @@
 use Prim.Native.Nat.{ℕ, _-_, _<_}
 use native.Mathlib.Omega.{arith}
 use borrow.Author.Needs.{needs}
-use Rattle.orders.specs.declared.rank.Landing.the-variants.{To, Nowhere}
-use Rattle.orders.specs.Passes.{positions, Misses, Lands}
+use Rattle.orders.specs.Passes.{positions, Misses}
 use Rattle.orders.proofs.Spreading.{misses-more, misses-all}
 use Rattle.orders.proofs.pass.choose.Statement.{statement}
 use Rattle.orders.proofs.pass.choose.Tie as tie

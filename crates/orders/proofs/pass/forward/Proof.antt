@@ -1,10 +1,7 @@
 -- `orders::pass::forward` meets its contract. The loop's invariant: the gaps passed hold exactly the ranks of ways.
-use mathlib.Core.Path.{_≡_, _∙_}
-use mathlib.Core.Bool.{true, false}
+use mathlib.Core.Path.{_∙_}
 use Prim.Native.Nat.{_-_}
 use native.Mathlib.Omega.{arith}
-use lib.ListN.{length}
-use Rattle.orders.specs.Sets.{Bare}
 use Rattle.orders.proofs.Filling.{Fills, fills-start, fills-step, fills-stuck, fills-end}
 use Rattle.orders.proofs.Nodes.{stop-ready}
 use Rattle.orders.proofs.pass.forward.Statement.{statement}

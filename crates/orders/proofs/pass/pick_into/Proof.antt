@@ -1,5 +1,4 @@
 -- `orders::pass::pick_into` meets its contract. The loop's invariant: the positions so far begin the first of all.
-use mathlib.Core.Path.{_≡_}
 use Prim.Native.Nat.{_-_}
 use native.Mathlib.Omega.{arith}
 use borrow.Author.Needs.{needs}

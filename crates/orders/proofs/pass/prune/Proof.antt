@@ -1,5 +1,5 @@
 -- `orders::pass::prune` meets its contract. The loop's invariant: the gaps from that before node i on are pruned.
-use mathlib.Core.Path.{_≡_, _∙_}
+use mathlib.Core.Path.{_≡_}
 use Prim.Native.Nat.{suc, _-_}
 use native.Mathlib.Omega.{arith}
 use Rattle.orders.proofs.Pruning.{Prunes, prunes-start, mark-below, prunes-step, prunes-end}

@@ -1,10 +1,8 @@
 -- `orders::pass::prune_set` meets its contract. The loop's invariant: the ranks passed are left exactly where the node leads on.
-use mathlib.Core.Path.{_≡_}
 use Prim.Native.Nat.{suc, _-_, _≤_, _<_}
 use native.Mathlib.Omega.{arith}
 use borrow.Author.Needs.{needs}
 use Rattle.orders.specs.Sets.{Loses}
-use Rattle.orders.specs.Ranks.{fact}
 use Rattle.orders.specs.Passes.{Onward}
 use Rattle.orders.proofs.Pruning.{ranks-start, ranks-step, ranks-end}
 use Rattle.orders.proofs.pass.prune_set.Statement.{statement}

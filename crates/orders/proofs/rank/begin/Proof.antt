@@ -1,11 +1,10 @@
 -- `orders::rank::begin` meets its contract, by the laws of a hop that begins a net.
-use mathlib.Core.Path.{_≡_, sym, ap, _∙_}
-use Prim.Native.Nat.{ℕ, suc, _+_, _*_, _≤_}
+use mathlib.Core.Path.{sym, ap, _∙_}
+use Prim.Native.Nat.{ℕ, _+_, _*_}
 use native.Mathlib.Nat.{mul-le-mul}
 use native.Mathlib.Numerals.{add-one}
 use native.Mathlib.Omega.{arith}
 use borrow.Author.Needs.{needs}
-use Rattle.orders.specs.Ranks.{fact}
 use Rattle.orders.specs.Stops.{told}
 use Rattle.orders.specs.declared.rank.Landing.the-variants.{To}
 use Rattle.orders.proofs.Ranks.{fact-six}

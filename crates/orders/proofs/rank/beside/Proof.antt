@@ -1,10 +1,9 @@
 -- `orders::rank::beside` meets its contract: `under` and `spared` go by the same test.
-use mathlib.Core.Path.{_≡_, sym, ap, ap₂, _∙_}
-use Prim.Native.Nat.{ℕ, suc, _+_, _-_, _*_, _≤_}
+use mathlib.Core.Path.{sym, ap₂}
+use Prim.Native.Nat.{ℕ, _+_, _-_, _*_, _≤_}
 use native.Mathlib.Nat.{mul-le-mul}
 use native.Mathlib.Omega.{arith}
 use borrow.Author.Needs.{needs}
-use Rattle.orders.specs.Ranks.{fact}
 use Rattle.orders.proofs.Ranks.{under-above, under-below, spared-above, spared-below}
 use Rattle.orders.proofs.rank.beside.Statement.{statement}
 use Rattle.orders.proofs.rank.beside.Tie as tie

@@ -1,10 +1,8 @@
 -- `orders::reach::spread` meets its contract. The loop's invariant: what the ranks passed lead to is marked.
-use mathlib.Core.Path.{_≡_, _∙_}
-use Prim.Native.Nat.{_-_, _≤_, _<_}
+use Prim.Native.Nat.{_-_, _≤_}
 use native.Mathlib.Omega.{arith}
 use borrow.Author.Needs.{needs}
-use Rattle.orders.specs.Sets.{ranks, Gains}
-use Rattle.orders.specs.Ranks.{fact}
+use Rattle.orders.specs.Sets.{Gains}
 use Rattle.orders.proofs.Spreading.{Reach, reach-start, reach-step, reach-end}
 use Rattle.orders.proofs.reach.spread.Statement.{statement}
 use Rattle.orders.proofs.reach.spread.Tie as tie

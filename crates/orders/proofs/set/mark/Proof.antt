@@ -1,7 +1,6 @@
 -- `orders::set::mark` meets its contract: a mark that is there stays, and one that is not is made by turning it over.
-use mathlib.Core.Path.{_≡_, sym, ap, _∙_}
-use mathlib.Core.Bool.{true, false, not}
-use Rattle.orders.specs.Sets.{marked, Set}
+use mathlib.Core.Path.{sym, _∙_}
+use mathlib.Core.Bool.{true, false}
 use Rattle.orders.proofs.Bits.{set-already, set-turned}
 use borrow.Author.Needs.{needs}
 use Rattle.orders.proofs.set.mark.Statement.{statement}

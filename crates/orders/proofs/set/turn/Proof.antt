@@ -1,7 +1,4 @@
 -- `orders::set::turn` meets its contract: it turns over the one bit of the rank.
-use mathlib.Core.Path.{sym}
-use Rattle.orders.specs.Sets.{ranks, address, marked, Set}
-use mathlib.Core.Bool.{not}
 use Rattle.orders.proofs.Bits.{byte-inside, turned-at, turn-set}
 use borrow.Author.Needs.{needs}
 use Rattle.orders.proofs.set.turn.Statement.{statement}

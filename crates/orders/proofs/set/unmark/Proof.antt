@@ -1,5 +1,5 @@
 -- `orders::set::unmark` meets its contract: a mark that is there is turned over.
-use mathlib.Core.Path.{_≡_, sym, _∙_}
+use mathlib.Core.Path.{sym, _∙_}
 use mathlib.Core.Bool.{true, false}
 use Rattle.orders.proofs.Bits.{set-already, set-turned}
 use borrow.Author.Needs.{needs}
