@@ -2,7 +2,6 @@
 use mathlib.Core.Path.{_≡_, refl, sym, _∙_}
 use mathlib.Core.Bool.{true}
 use mathlib.Core.List.{List}
-use mathlib.Core.Logic.{⊎-elim}
 use Prim.Native.Nat.{ℕ, zero, suc, _+_, _≤_, _<_}
 use native.Mathlib.Numerals.{add-one}
 use native.Mathlib.Omega.{arith}
@@ -10,8 +9,8 @@ use lib.ListN.{length, getD, take}
 use borrow.Author.Tests.{eqb-true, eq-eqb}
 use Rattle.orders.specs.Plan.{Step, steps}
 use Rattle.orders.specs.Ranks.{Way}
-use Rattle.orders.specs.Sets.{ranks, marked, source, Gains, Empty, Some, Clear}
-use Rattle.orders.specs.Passes.{Reached, Given, Filled, Passes, Forward}
+use Rattle.orders.specs.Sets.{ranks, marked, source, Exactly, Empty, Some, Clear}
+use Rattle.orders.specs.Passes.{Reached, Given, Filled, Passable, Forward}
 use Rattle.orders.proofs.Ranks.{fact-six}
 use Rattle.orders.proofs.Bits.{clear-empty}
 use Rattle.orders.proofs.Spreading.{last-or}
@@ -35,7 +34,7 @@ pub record Fills (ks xs cs : List ℕ) (ku kl : ℕ) (s₀ : List ℕ) (i : ℕ)
   pub within : i ≤ length ks
   pub filled : Filled ku kl (steps ks xs cs) i s
   pub empty : (g x : ℕ) → i ≤ g → x < ranks → marked s g x ≡ true → ⊥
-  pub passes : Passes ku kl (take i (steps ks xs cs))
+  pub passes : Passable ku kl (take i (steps ks xs cs))
 
 module _ (ks xs cs : List ℕ) (ku kl : ℕ) (s₀ : List ℕ) (given : Given ks xs cs s₀ ku kl) where
   abbrev ss : List Step
@@ -51,7 +50,7 @@ module _ (ks xs cs : List ℕ) (ku kl : ℕ) (s₀ : List ℕ) (given : Given ks
         passes = record { end = 0; way = way-start ku kl };
       }
 
-  module _ (i : ℕ) (s t : List ℕ) (l : i < length ks) (f : Fills ks xs cs ku kl s₀ i s) (a : Gains s i (Reached (stopOf ks xs cs ku kl i) s i) t) where
+  module _ (i : ℕ) (s t : List ℕ) (l : i < length ks) (f : Fills ks xs cs ku kl s₀ i s) (a : Exactly s i (Reached (stopOf ks xs cs ku kl i) s i) t) where
     reached-way : (x : ℕ) → Reached (stopOf ks xs cs ku kl i) s i x → Way ku kl (take (suc i) ss) x
     reached-way x r =
         let p = f .passes in
@@ -71,7 +70,7 @@ module _ (ks xs cs : List ℕ) (ku kl : ℕ) (s₀ : List ℕ) (given : Given ks
 
     -- gap i now holds the ranks of ways
     now-way : (x : ℕ) → x < ranks → marked t i x ≡ true → Way ku kl (take (suc i) ss) x
-    now-way x h e = ⊎-elim (λ m. absurd (f .empty i x (omega arith) h m)) (reached-way x) (a .sound x h e)
+    now-way x h e = reached-way x (a .sound x h e)
 
     way-now : (x : ℕ) → Way ku kl (take (suc i) ss) x → marked t i x ≡ true
     way-now x w = a .full x (rank-below ks xs cs ku kl (suc i) s₀ x given w) (way-reached x w)

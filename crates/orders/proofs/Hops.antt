@@ -12,10 +12,9 @@ use Rattle.rules.specs.Sheet.{kindIn}
 use Rattle.rules.specs.Judgement.{left}
 use Rattle.rules.proofs.Fits.{Fits, fits→, →fits}
 use Rattle.orders.specs.Plan.{step}
-use Rattle.orders.specs.Ranks.{fact, atOf, lessOf, hopOf}
+use Rattle.orders.specs.Ranks.{capacity, fact, atOf, lessOf, hopOf}
 use Rattle.orders.specs.Sets.{ranks}
 use Rattle.orders.specs.Stops.{hopAt, told, Sound}
-use Rattle.orders.specs.Passes.{positions}
 use Rattle.orders.specs.declared.rank.Stop.{Stop}
 use Rattle.orders.specs.declared.rank.Landing.the-variants.{To, Nowhere}
 use Rattle.orders.proofs.Ranks.{rank-lt, less-lt, fact-six}
@@ -125,8 +124,8 @@ hop-made ku kl (suc (suc zero)) a b r p x e =
     record { kind = omega arith; room = omega arith; left-open = omega arith; lands = λ h l. rw (← q) (less-lt a b r (h (omega arith)) l) }
 hop-made ku kl (suc (suc (suc k))) a b r p x e = let z : _≡_ {A = ℕ} 0 1 = cc in absurd (omega arith)
 
--- at a sound stop a hop has one of six positions, and lands on a rank of the gap
-pub stop-lands : (t : Stop) (r p x : ℕ) → Sound t → r < fact (t .count) → hopAt t r p ≡ some x → (p < positions) × (x < ranks)
+-- at a sound stop a hop has one of six capacity, and lands on a rank of the gap
+pub stop-lands : (t : Stop) (r p x : ℕ) → Sound t → r < fact (t .count) → hopAt t r p ≡ some x → (p < capacity) × (x < ranks)
 stop-lands t r p x h l e =
     let m = hop-made (t .ku) (t .kl) (t .kind) (t .age) (t .count) r p x e in
     (omega arith, omega (arith, m .lands (h .touched) l, fact-six (left (kindIn (t .kind)) (t .count)) (omega arith)))

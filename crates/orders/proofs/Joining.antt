@@ -6,12 +6,12 @@ use native.Mathlib.Omega.{arith}
 use lib.ListN.{length, take}
 use lib.Seq.{take-all, take-take}
 use Rattle.orders.specs.Plan.{Step, steps}
-use Rattle.orders.specs.Passes.{Given, Filled, Passes, Forward, Pruned, Kept}
+use Rattle.orders.specs.Passes.{Given, Filled, Passable, Forward, Pruned, Kept}
 use Rattle.orders.proofs.Ways.{passes-take, steps-length}
 use Rattle.orders.proofs.Nodes.{rank-below}
 
 -- the nodes before the failing one can be passed
-pub forward-sooner : (ku kl : ℕ) (ss : List Step) (s t : List ℕ) (n j : ℕ) → Forward ku kl ss s t n → j ≤ n → Passes ku kl (take j ss)
+pub forward-sooner : (ku kl : ℕ) (ss : List Step) (s t : List ℕ) (n j : ℕ) → Forward ku kl ss s t n → j ≤ n → Passable ku kl (take j ss)
 forward-sooner ku kl ss s t n j f l = rw (take-take j n ss l) at (passes-take ku kl j (take n ss) (f .passes))
 
 module _ (ks xs cs : List ℕ) (ku kl : ℕ) (s t : List ℕ) where
@@ -31,7 +31,7 @@ module _ (ks xs cs : List ℕ) (ku kl : ℕ) (s t : List ℕ) where
     pub forward-filled : Filled ku kl (steps ks xs cs) (length ks) t
     forward-filled = f .filled
 
-    pub forward-passes : Passes ku kl (steps ks xs cs)
+    pub forward-passes : Passable ku kl (steps ks xs cs)
     forward-passes = rw (take-all (length ks) (steps ks xs cs) (omega (arith, steps-length ks xs cs))) at (f .passes)
 
   pub pruned-kept : Given ks xs cs s ku kl → Filled ku kl (steps ks xs cs) (length ks) s → Pruned ku kl (steps ks xs cs) s t →

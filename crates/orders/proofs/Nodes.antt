@@ -9,7 +9,7 @@ use Rattle.orders.specs.Plan.{Step, step, steps}
 use Rattle.orders.specs.Ranks.{fact, Way, Ahead}
 use Rattle.orders.specs.Sets.{ranks}
 use Rattle.orders.specs.Stops.{stepOf, Sound}
-use Rattle.orders.specs.Passes.{Leads, Given, Passes}
+use Rattle.orders.specs.Passes.{Leads, Given, Passable}
 use Rattle.orders.proofs.Ways.{Hopped, way-more, way-less, ahead-more, ahead-less, way-ready, way-below, passes-take, steps-length, steps-at}
 
 -- node i of three lists
@@ -65,7 +65,7 @@ module _ (ks xs cs : List ℕ) (ku kl : ℕ) where
         let r = way-ready ku kl (g .upper) (g .lower) i ss none (getD ks i 0) (getD xs i 0) (getD cs i 0) x (g .plan) inside told v in
         (record { few = r .few; touched = r .touched; upper = g .upper; lower = g .lower }, r .rank)
 
-  pub stop-sound : (i : ℕ) (w : List ℕ) → i < length ks → Given ks xs cs w ku kl → Passes ku kl ss → Sound (stopOf ks xs cs ku kl i)
+  pub stop-sound : (i : ℕ) (w : List ℕ) → i < length ks → Given ks xs cs w ku kl → Passable ku kl ss → Sound (stopOf ks xs cs ku kl i)
   stop-sound i w l g p =
       let v = passes-take ku kl i ss p in
       stop-ready i l w (v .end) g (v .way) .0

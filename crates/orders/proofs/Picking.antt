@@ -16,7 +16,7 @@ use Rattle.orders.specs.Plan.{Step, step, steps}
 use Rattle.orders.specs.Ranks.{hopOf, hops, Way, Ahead}
 use Rattle.orders.specs.Sets.{marked}
 use Rattle.orders.specs.Stops.{stepOf, hopAt}
-use Rattle.orders.specs.Passes.{Misses, Least, Given, Kept, Passes, First}
+use Rattle.orders.specs.Passes.{Misses, Least, Given, Kept, Passable, First}
 use Rattle.orders.proofs.Hops.{same-some}
 use Rattle.orders.proofs.Ways.{hops-nil, hops-start, hops-first, first-hops, way-start, passes-ahead, steps-length, steps-at}
 use Rattle.orders.proofs.Nodes.{stopOf, way-on, ahead-back}
@@ -65,7 +65,7 @@ module _ (ks xs cs : List ℕ) (ku kl : ℕ) (s : List ℕ) (given : Given ks xs
   abbrev none : Step
   none = step 0 0 0
 
-  pub picks-start : (ps : List ℕ) → length ps ≡ 512 → Passes ku kl ss → Picks ks xs cs ku kl ps 0 0
+  pub picks-start : (ps : List ℕ) → length ps ≡ 512 → Passable ku kl ss → Picks ks xs cs ku kl ps 0 0
   picks-start ps h p =
       record { cells = h; within = omega arith; way = way-start ku kl; ahead = passes-ahead ku kl ss p; rest = λ ws f. f }
 

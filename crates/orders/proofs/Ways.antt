@@ -13,7 +13,7 @@ use Rattle.rules.specs.Judgement.{left}
 use Rattle.orders.specs.Plan.{Step, step, Steps, nil, full, begins, meet, steps}
 use Rattle.orders.specs.Ranks.{fact, hopOf, hops, openAfter, Way, Ahead}
 use Rattle.orders.specs.Sets.{ranks}
-use Rattle.orders.specs.Passes.{Passes}
+use Rattle.orders.specs.Passes.{Passable}
 use Rattle.orders.proofs.Ranks.{fact-pos, fact-six}
 use Rattle.orders.proofs.Hops.{hop-made}
 
@@ -115,12 +115,12 @@ module _ (ku kl : ℕ) where
       let (us, z, j) = hops-take i ss y x qs k in
       (p ∷ us, z, first-hops s (take i ss) r z y p us h j)
 
-  pub passes-take : (i : ℕ) (ss : List Step) → Passes ku kl ss → Passes ku kl (take i ss)
+  pub passes-take : (i : ℕ) (ss : List Step) → Passable ku kl ss → Passable ku kl (take i ss)
   passes-take i ss w =
       let (qs, y, e) = hops-take i ss 0 (w .end) (w .way .ps) (w .way .runs) in
       record { end = y; way = record { ps = qs; runs = e } }
 
-  pub passes-ahead : (ss : List Step) → Passes ku kl ss → Ahead ku kl ss 0
+  pub passes-ahead : (ss : List Step) → Passable ku kl ss → Ahead ku kl ss 0
   passes-ahead ss w = record { ps = w .way .ps; end = w .end; runs = w .way .runs }
 
 -- a rank of b nets, at a step that finds them and touches one of them

@@ -14,6 +14,10 @@ use Rattle.rules.specs.Sheet.{kindIn}
 use Rattle.rules.specs.Judgement.{left}
 use Rattle.orders.specs.Plan.{Step, step}
 
+-- the most nets that can be open: two streets have at most six tracks. No node has more positions.
+abbrev pub capacity : ℕ
+capacity = 6
+
 -- how many orders n nets have
 unfoldable pub fact : ℕ → ℕ
 fact zero = 1

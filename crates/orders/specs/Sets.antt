@@ -50,6 +50,13 @@ pub record Gains (s : List ℕ) (g : ℕ) (P : ℕ → Type 0) (t : List ℕ) : 
   pub kept : (x : ℕ) → x < ranks → marked s g x ≡ true → marked t g x ≡ true
   pub full : (x : ℕ) → x < ranks → P x → marked t g x ≡ true
 
+-- t is s with exactly the ranks of P marked in gap g
+pub record Exactly (s : List ℕ) (g : ℕ) (P : ℕ → Type 0) (t : List ℕ) : Type 0 where
+  pub long : length t ≡ length s
+  pub others : (h x : ℕ) → x < ranks → (h ≡ g → ⊥) → marked t h x ≡ marked s h x
+  pub sound : (x : ℕ) → x < ranks → marked t g x ≡ true → P x
+  pub full : (x : ℕ) → x < ranks → P x → marked t g x ≡ true
+
 -- t is s with only the ranks of P left in gap g
 pub record Loses (s : List ℕ) (g : ℕ) (P : ℕ → Type 0) (t : List ℕ) : Type 0 where
   pub long : length t ≡ length s

@@ -1,4 +1,5 @@
 // The router's three passes over the sets of ranks: forward, back to prune, and forward to pick.
+use crate::rank::CAPACITY;
 use crate::rank::Landing;
 use crate::rank::Stop;
 use crate::rank::factorial;
@@ -15,7 +16,7 @@ ghost use Rattle.orders.specs.Plan.{steps};
 ghost use Rattle.orders.specs.Ranks.{fact};
 ghost use Rattle.orders.specs.Sets.{ranks, stretch, marked, Clear, Loses};
 ghost use Rattle.orders.specs.Stops.{Sound};
-ghost use Rattle.orders.specs.Passes.{Onward, Landed, Chosen, Given, Forward, Filled, Passes, Pruned, Kept, Picked};
+ghost use Rattle.orders.specs.Passes.{Onward, Landed, Chosen, Given, Forward, Filled, Passable, Pruned, Kept, Picked};
 
 // The position that is taken at a node, from 0, and the rank after it.
 pub enum Choice {
@@ -58,7 +59,7 @@ pub fn forward(work: &mut [u8], kinds: &[u8], ages: &[u8], counts: &[u8], ku: u8
 pub fn prune(work: &mut [u8], kinds: &[u8], ages: &[u8], counts: &[u8], ku: u8, kl: u8)
     requires { ⌜ Given (now kinds) (now ages) (now counts) (now work) ku kl ⌝ }
     requires { ⌜ Filled ku kl (steps (now kinds) (now ages) (now counts)) (length (now kinds)) (now work) ⌝ }
-    requires { ⌜ Passes ku kl (steps (now kinds) (now ages) (now counts)) ⌝ }
+    requires { ⌜ Passable ku kl (steps (now kinds) (now ages) (now counts)) ⌝ }
     ensures { λ _. ⌜ Pruned ku kl (steps (now (kinds .entry)) (now (ages .entry)) (now (counts .entry))) (now (work .entry)) (now (work .exit)) ⌝ }
 {
     let mut i = kinds.len();
@@ -80,7 +81,7 @@ pub fn prune(work: &mut [u8], kinds: &[u8], ages: &[u8], counts: &[u8], ku: u8, 
 pub fn pick(work: &[u8], kinds: &[u8], ages: &[u8], counts: &[u8], ku: u8, kl: u8) -> Positions
     requires { ⌜ Given (now kinds) (now ages) (now counts) (now work) ku kl ⌝ }
     requires { ⌜ Kept ku kl (steps (now kinds) (now ages) (now counts)) (now work) ⌝ }
-    requires { ⌜ Passes ku kl (steps (now kinds) (now ages) (now counts)) ⌝ }
+    requires { ⌜ Passable ku kl (steps (now kinds) (now ages) (now counts)) ⌝ }
     requires { ⌜ length (now kinds) ≤ 512 ⌝ }
     ensures { λ a. ⌜ Picked ku kl (steps (now (kinds .entry)) (now (ages .entry)) (now (counts .entry))) a ⌝ }
 {
@@ -100,7 +101,7 @@ fn pick_into(
 ) -> Positions
     requires { ⌜ Given (now kinds) (now ages) (now counts) (now work) ku kl ⌝ }
     requires { ⌜ Kept ku kl (steps (now kinds) (now ages) (now counts)) (now work) ⌝ }
-    requires { ⌜ Passes ku kl (steps (now kinds) (now ages) (now counts)) ⌝ }
+    requires { ⌜ Passable ku kl (steps (now kinds) (now ages) (now counts)) ⌝ }
     requires { ⌜ (length (now kinds) ≤ 512) × (length (old .ps) ≡ 512) ⌝ }
     ensures { λ a. ⌜ Picked ku kl (steps (now (kinds .entry)) (now (ages .entry)) (now (counts .entry))) a ⌝ }
 {
@@ -163,7 +164,7 @@ fn choose(work: &[u8], g: usize, stop: Stop, r: usize) -> Choice
     ensures { λ c. ⌜ Chosen stop (now (work .entry)) g r c ⌝ }
 {
     let mut p: usize = 0;
-    while p < 6 {
+    while p < CAPACITY {
         if let Landing::To(x) = land(work, g, stop, r, p) {
             return Choice::Go(p, x);
         }

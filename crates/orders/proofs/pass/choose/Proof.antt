@@ -2,7 +2,8 @@
 use Prim.Native.Nat.{ℕ, _-_, _<_}
 use native.Mathlib.Omega.{arith}
 use borrow.Author.Needs.{needs}
-use Rattle.orders.specs.Passes.{positions, Misses}
+use Rattle.orders.specs.Ranks.{capacity}
+use Rattle.orders.specs.Passes.{Misses}
 use Rattle.orders.proofs.Spreading.{misses-more, misses-all}
 use Rattle.orders.proofs.pass.choose.Statement.{statement}
 use Rattle.orders.proofs.pass.choose.Tie as tie
@@ -11,7 +12,7 @@ abbrev Inv-loop : tie.InvT-loop
 Inv-loop work g stop r p₀ p = (q : ℕ) → q < p → Misses stop work g r q
 
 abbrev μ-loop : tie.MeasureT-loop
-μ-loop work g stop r p₀ p = positions - p
+μ-loop work g stop r p₀ p = capacity - p
 
 loop-holds : tie.Need-loop-holds Inv-loop μ-loop
 loop-holds c = λ q h. absurd (omega arith)

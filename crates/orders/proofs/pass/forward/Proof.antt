@@ -35,7 +35,8 @@ spread-requires c κs =
     let l = c .before .before .before .before .before .loop in
     let p = l .inv .passes in
     let t = c .before .before .before .before .loop-test .taken in
-    (stop-ready (a .kinds .now) (a .ages .now) (a .counts .now) (a .ku) (a .kl) (l .i) t (a .work .now) (p .end) (g .pre .0) (p .way) .0, omega (arith, g .pre .0 .room, l .inv .long, t))
+    let s = stop-ready (a .kinds .now) (a .ages .now) (a .counts .now) (a .ku) (a .kl) (l .i) t (a .work .now) (p .end) (g .pre .0) (p .way) .0 in
+    ((s, omega (arith, g .pre .0 .room, l .inv .long, t)), λ x h e. l .inv .empty (l .i) x (omega arith) h e)
 
 bare-requires : tie.Need-bare-requires Inv-loop μ-loop
 bare-requires c κs =

@@ -1,8 +1,8 @@
 -- `orders::reach::fan` meets its contract. The loop's invariant: what the positions passed lead to is marked.
 use Prim.Native.Nat.{_-_}
 use native.Mathlib.Omega.{arith}
+use Rattle.orders.specs.Ranks.{capacity}
 use Rattle.orders.specs.Sets.{Gains}
-use Rattle.orders.specs.Passes.{positions}
 use Rattle.orders.proofs.Spreading.{Fan, fan-start, fan-step, fan-end}
 use Rattle.orders.proofs.reach.fan.Statement.{statement}
 use Rattle.orders.proofs.reach.fan.Tie as tie
@@ -11,7 +11,7 @@ abbrev Inv-loop : tie.InvT-loop
 Inv-loop work₀ g stop r p₀ work p = Gains work₀ g (Fan stop r p) work
 
 abbrev μ-loop : tie.MeasureT-loop
-μ-loop work₀ g stop r p₀ work p = positions - p
+μ-loop work₀ g stop r p₀ work p = capacity - p
 
 loop-holds : tie.Need-loop-holds Inv-loop μ-loop
 loop-holds c =

@@ -27,7 +27,7 @@ loop-holds c =
 fan-from-requires : tie.Need-fan-from-requires Inv-loop μ-loop
 fan-from-requires c κs =
     let g = c .before .before .before .before .before .before in
-    ((g .pre .0, omega (arith, g .pre .1, c .before .before .loop .inv .0 .long)), rw (← c .before .before .before .factorial .ensures .value) (c .before .loop-test .taken))
+    ((g .pre .0 .0, omega (arith, g .pre .0 .1, c .before .before .loop .inv .0 .long)), rw (← c .before .before .before .factorial .ensures .value) (c .before .loop-test .taken))
 
 add-r : tie.Need-add-r Inv-loop μ-loop
 add-r c = omega arith
@@ -49,7 +49,7 @@ returns : tie.Need-returns Inv-loop μ-loop
 returns c =
     let g = c .before .before .before .before .before .args in
     let l = c .before .loop in
-    reach-end (g .work .now) (g .g) (g .stop) (l .r) (l .work) (omega (arith, c .before .before .factorial .ensures .value)) (l .inv .0)
+    reach-end (g .work .now) (g .g) (g .stop) (l .r) (l .work) (omega (arith, c .before .before .factorial .ensures .value)) (c .before .before .before .before .before .pre .1) (l .inv .0)
 
 pub spread-spec : {M : Type 1} → statement M
 spread-spec =
