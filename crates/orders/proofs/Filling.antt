@@ -10,12 +10,13 @@ use borrow.Author.Tests.{eqb-true, eq-eqb}
 use Rattle.orders.specs.Plan.{Step, steps}
 use Rattle.orders.specs.Ranks.{Way}
 use Rattle.orders.specs.Sets.{ranks, marked, source, Exactly, Empty, Some, Clear}
+use Rattle.orders.specs.Stops.{stopOf}
 use Rattle.orders.specs.Passes.{Reached, Given, Filled, Passable, Forward}
 use Rattle.orders.proofs.Ranks.{fact-six}
 use Rattle.orders.proofs.Bits.{clear-empty}
 use Rattle.orders.proofs.Spreading.{last-or}
 use Rattle.orders.proofs.Ways.{way-start, way-none, steps-length}
-use Rattle.orders.proofs.Nodes.{stopOf, way-on, way-back, stop-ready, rank-below}
+use Rattle.orders.proofs.Nodes.{way-on, way-back, stop-ready, rank-below}
 
 -- the ranks before a node are those of ways
 pub way-source : (ku kl : ℕ) (ss : List Step) (i : ℕ) (s : List ℕ) (r : ℕ) → Filled ku kl ss i s → Way ku kl (take i ss) r → source s i r ≡ true

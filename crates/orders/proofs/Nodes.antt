@@ -4,17 +4,12 @@ use mathlib.Core.List.{List, _∷_}
 use Prim.Native.Nat.{ℕ, suc, _<_}
 use lib.ListN.{length, getD, take, drop}
 use lib.Seq.{drop-cons}
-use Rattle.orders.specs.declared.rank.Stop.{Stop}
 use Rattle.orders.specs.Plan.{Step, step, steps}
 use Rattle.orders.specs.Ranks.{fact, Way, Ahead}
 use Rattle.orders.specs.Sets.{ranks}
-use Rattle.orders.specs.Stops.{stepOf, Sound}
+use Rattle.orders.specs.Stops.{stepOf, stopOf, Sound}
 use Rattle.orders.specs.Passes.{Leads, Given, Passable}
 use Rattle.orders.proofs.Ways.{Hopped, way-more, way-less, ahead-more, ahead-less, way-ready, way-below, passes-take, steps-length, steps-at}
-
--- node i of three lists
-abbrev pub stopOf : (ks xs cs : List ℕ) (ku kl i : ℕ) → Stop
-stopOf ks xs cs ku kl i = record { kind = getD ks i 0; age = getD xs i 0; count = getD cs i 0; ku = ku; kl = kl }
 
 module _ (ks xs cs : List ℕ) (ku kl : ℕ) where
   abbrev ss : List Step
@@ -22,9 +17,6 @@ module _ (ks xs cs : List ℕ) (ku kl : ℕ) where
 
   abbrev none : Step
   none = step 0 0 0
-
-  at : ℕ → Stop
-  at i = stopOf ks xs cs ku kl i
 
   module _ (i : ℕ) (l : i < length ks) where
     inside : i < length ss

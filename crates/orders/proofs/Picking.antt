@@ -15,11 +15,11 @@ use Rattle.rules.specs.Street.{Earlier, here, there}
 use Rattle.orders.specs.Plan.{Step, step, steps}
 use Rattle.orders.specs.Ranks.{hopOf, hops, Way, Ahead}
 use Rattle.orders.specs.Sets.{marked}
-use Rattle.orders.specs.Stops.{stepOf, hopAt}
+use Rattle.orders.specs.Stops.{stopOf, stepOf, hopAt}
 use Rattle.orders.specs.Passes.{Misses, Least, Given, Kept, Passable, First}
 use Rattle.orders.proofs.Hops.{same-some}
 use Rattle.orders.proofs.Ways.{hops-nil, hops-start, hops-first, first-hops, way-start, passes-ahead, steps-length, steps-at}
-use Rattle.orders.proofs.Nodes.{stopOf, way-on, ahead-back}
+use Rattle.orders.proofs.Nodes.{way-on, ahead-back}
 
 module _ (ku kl : ℕ) where
   pub first-none : (r : ℕ) → First ku kl [] r []

@@ -11,12 +11,13 @@ use Rattle.orders.specs.declared.rank.Stop.{Stop}
 use Rattle.orders.specs.Plan.{Step, steps}
 use Rattle.orders.specs.Ranks.{fact, Ahead}
 use Rattle.orders.specs.Sets.{ranks, marked, Set, Loses}
+use Rattle.orders.specs.Stops.{stopOf}
 use Rattle.orders.specs.Passes.{Onward, Misses, Least, Given, Filled, Pruned}
 use Rattle.orders.proofs.Bits.{not-both}
 use Rattle.orders.proofs.Gains.{loses-none, loses-map, loses-one, loses-join}
 use Rattle.orders.proofs.Spreading.{last-or}
 use Rattle.orders.proofs.Ways.{ahead-none, steps-length}
-use Rattle.orders.proofs.Nodes.{stopOf, way-on, ahead-on, ahead-back, stop-ready, rank-below}
+use Rattle.orders.proofs.Nodes.{way-on, ahead-on, ahead-back, stop-ready, rank-below}
 
 -- a number from g on is g or above it
 at-or : {P : Type 0} (h g : ℕ) → g ≤ h → (h ≡ g → P) → (g < h → P) → P

@@ -1,7 +1,9 @@
 -- What the code's stops, hops and places say of ranks.
 use mathlib.Core.Path.{_≡_}
+use mathlib.Core.List.{List}
 use mathlib.Core.Option.{Option, none, some}
 use Prim.Native.Nat.{ℕ, _+_, _-_, _*_, _<_, _≤_}
+use lib.ListN.{getD}
 use Rattle.orders.specs.declared.rank.Stop.{Stop}
 use Rattle.orders.specs.declared.rank.Place.{Place}
 use Rattle.orders.specs.declared.rank.Landing.{Landing}
@@ -12,6 +14,11 @@ use Rattle.orders.specs.Ranks.{capacity, fact, under, spared, atOf, less
 
 abbrev pub stepOf : Stop → Step
 stepOf t = step (t .kind) (t .age) (t .count)
+
+-- node i of three lists
+abbrev pub stopOf : (kinds ages counts : List ℕ) (ku kl i : ℕ) → Stop
+stopOf kinds ages counts ku kl i =
+    record { kind = getD kinds i 0; age = getD ages i 0; count = getD counts i 0; ku = ku; kl = kl }
 
 -- the transition at a stop
 abbrev pub hopAt : Stop → (r p : ℕ) → Option ℕ

@@ -15,7 +15,7 @@ ghost use lib.ListN.{length};
 ghost use Rattle.orders.specs.Plan.{steps};
 ghost use Rattle.orders.specs.Ranks.{fact};
 ghost use Rattle.orders.specs.Sets.{ranks, stretch, marked, Clear, Loses};
-ghost use Rattle.orders.specs.Stops.{Sound};
+ghost use Rattle.orders.specs.Stops.{Sound, stopOf};
 ghost use Rattle.orders.specs.Passes.{Onward, Landed, Chosen, Given, Forward, Filled, Passable, Pruned, Kept, Picked};
 
 // The position that is taken at a node, from 0, and the rank after it.
@@ -39,13 +39,7 @@ pub fn forward(work: &mut [u8], kinds: &[u8], ages: &[u8], counts: &[u8], ku: u8
     let n = kinds.len();
     let mut i = 0;
     while i < n {
-        let stop = Stop {
-            kind: kinds[i],
-            age: ages[i],
-            count: counts[i],
-            ku,
-            kl,
-        };
+        let stop = stop_at(kinds, ages, counts, ku, kl, i);
         spread(work, i, stop);
         if bare(work, i) {
             return i;
@@ -65,13 +59,7 @@ pub fn prune(work: &mut [u8], kinds: &[u8], ages: &[u8], counts: &[u8], ku: u8, 
     let mut i = kinds.len();
     while 1 < i {
         let at = i - 1;
-        let stop = Stop {
-            kind: kinds[at],
-            age: ages[at],
-            count: counts[at],
-            ku,
-            kl,
-        };
+        let stop = stop_at(kinds, ages, counts, ku, kl, at);
         prune_set(work, at - 1, stop);
         i = at;
     }
@@ -110,13 +98,7 @@ fn pick_into(
     let mut r: usize = 0;
     let mut i = 0;
     while i < n {
-        let stop = Stop {
-            kind: kinds[i],
-            age: ages[i],
-            count: counts[i],
-            ku,
-            kl,
-        };
+        let stop = stop_at(kinds, ages, counts, ku, kl, i);
         let Choice::Go(p, x) = choose(work, i, stop, r) else {
             return Positions { ps };
         };
@@ -125,6 +107,20 @@ fn pick_into(
         i += 1;
     }
     Positions { ps }
+}
+
+// Node i.
+fn stop_at(kinds: &[u8], ages: &[u8], counts: &[u8], ku: u8, kl: u8, i: usize) -> Stop
+    requires { ⌜ (i < length (now kinds)) × (length (now ages) ≡ length (now kinds)) × (length (now counts) ≡ length (now kinds)) ⌝ }
+    ensures { λ t. ⌜ t ≡ stopOf (now (kinds .entry)) (now (ages .entry)) (now (counts .entry)) ku kl i ⌝ }
+{
+    Stop {
+        kind: kinds[i],
+        age: ages[i],
+        count: counts[i],
+        ku,
+        kl,
+    }
 }
 
 // Leaves in gap g only the ranks from which the node after it leads to a marked rank.

@@ -55,6 +55,7 @@ fn turn(work: &mut [u8], g: usize, r: usize)
 
 // Where the bit of a rank stands in its gap's stretch.
 fn place(r: usize) -> usize
+    requires { ⌜ r < ranks ⌝ }
     ensures { λ k. ⌜ k ≡ address r ⌝ }
 {
     r

@@ -19,40 +19,36 @@ loop-holds c =
     let a = g .args in
     fills-start (a .kinds .now) (a .ages .now) (a .counts .now) (a .ku) (a .kl) (a .work .now) (g .pre .0) (g .pre .1)
 
-shared-slice-read-t12 : tie.Need-shared-slice-read-t12 Inv-loop μ-loop
-shared-slice-read-t12 c = omega arith
-
-shared-slice-read-t14 : tie.Need-shared-slice-read-t14 Inv-loop μ-loop
-shared-slice-read-t14 c = omega (arith, c .before .before .before .before .before .before .before .before .pre .0 .aged, c .before .before .loop-test .taken)
-
-shared-slice-read-t16 : tie.Need-shared-slice-read-t16 Inv-loop μ-loop
-shared-slice-read-t16 c = omega (arith, c .before .before .before .before .before .before .before .before .before .pre .0 .counted, c .before .before .before .loop-test .taken)
+stop-at-requires : tie.Need-stop-at-requires Inv-loop μ-loop
+stop-at-requires c κs =
+    let g = c .before .before .before .before .before .before .pre .0 in
+    (c .loop-test .taken, g .aged, g .counted)
 
 spread-requires : tie.Need-spread-requires Inv-loop μ-loop
 spread-requires c κs =
-    let g = c .before .before .before .before .before .before .before .before .before .before in
+    let g = c .before .before .before .before .before .before .before .before in
     let a = g .args in
-    let l = c .before .before .before .before .before .loop in
+    let l = c .before .before .before .loop in
     let p = l .inv .passes in
-    let t = c .before .before .before .before .loop-test .taken in
+    let t = c .before .before .loop-test .taken in
     let s = stop-ready (a .kinds .now) (a .ages .now) (a .counts .now) (a .ku) (a .kl) (l .i) t (a .work .now) (p .end) (g .pre .0) (p .way) .0 in
-    ((s, omega (arith, g .pre .0 .room, l .inv .long, t)), λ x h e. l .inv .empty (l .i) x (omega arith) h e)
+    ((rw (c .before .stop-at .ensures) s, omega (arith, g .pre .0 .room, l .inv .long, t)), λ x h e. l .inv .empty (l .i) x (omega arith) h e)
 
 bare-requires : tie.Need-bare-requires Inv-loop μ-loop
 bare-requires c κs =
-    let l = c .before .before .before .before .before .before .before .before .before .loop in
-    omega (arith, c .before .before .before .before .before .before .before .before .before .before .before .before .before .before .pre .0 .room, l .inv .long, c .before .before .before .spread .ensures .long, c .before .before .before .before .before .before .before .before .loop-test .taken)
+    let l = c .before .before .before .before .before .before .before .loop in
+    omega (arith, c .before .before .before .before .before .before .before .before .before .before .before .before .pre .0 .room, l .inv .long, c .before .before .before .spread .ensures .long, c .before .before .before .before .before .before .loop-test .taken)
 
 same-length : tie.Need-same-length Inv-loop μ-loop
-same-length c = c .before .before .before .before .before .spread .ensures .long ∙ c .before .before .before .before .before .before .before .before .before .before .before .loop .inv .long
+same-length c = c .before .before .before .before .before .spread .ensures .long ∙ c .before .before .before .before .before .before .before .before .before .loop .inv .long
 
 returns : tie.Need-returns Inv-loop μ-loop
 returns c =
-    let g = c .before .before .before .before .before .before .before .before .before .before .before .before .before .before .before .before in
+    let g = c .before .before .before .before .before .before .before .before .before .before .before .before .before .before in
     let a = g .args in
-    let l = c .before .before .before .before .before .before .before .before .before .before .before .loop in
-    let e = rw (c .if1 .taken) at (c .before .bare .ensures) in
-    fills-stuck (a .kinds .now) (a .ages .now) (a .counts .now) (a .ku) (a .kl) (a .work .now) (g .pre .0) (l .i) (l .work) (c .before .before .before .before .before .spread .last .0) (c .before .before .before .before .before .before .before .before .before .before .loop-test .taken) (l .inv) (c .before .before .before .before .before .spread .ensures) e
+    let l = c .before .before .before .before .before .before .before .before .before .loop in
+    fills-stuck (a .kinds .now) (a .ages .now) (a .counts .now) (a .ku) (a .kl) (a .work .now) (g .pre .0) (l .i) (l .work) (c .before .before .before .before .before .spread .last .0) (c .before .before .before .before .before .before .before .before .loop-test .taken) (l .inv)
+    (rw (c .before .before .before .before .before .before .before .stop-at .ensures) at (c .before .before .before .before .before .spread .ensures)) (rw (c .if1 .taken) at (c .before .bare .ensures))
 
 add-i : tie.Need-add-i Inv-loop μ-loop
 add-i c = omega arith
@@ -62,11 +58,11 @@ loop-less c = omega arith
 
 loop-again : tie.Need-loop-again Inv-loop μ-loop
 loop-again c =
-    let g = c .before .before .before .before .before .before .before .before .before .before .before .before .before .before .before .before in
+    let g = c .before .before .before .before .before .before .before .before .before .before .before .before .before .before in
     let a = g .args in
-    let l = c .before .before .before .before .before .before .before .before .before .before .before .loop in
-    let e = rw (c .if1 .left) at (c .before .bare .ensures) in
-    fills-step (a .kinds .now) (a .ages .now) (a .counts .now) (a .ku) (a .kl) (a .work .now) (g .pre .0) (l .i) (l .work) (c .before .before .before .before .before .spread .last .0) (c .before .before .before .before .before .before .before .before .before .before .loop-test .taken) (l .inv) (c .before .before .before .before .before .spread .ensures) e
+    let l = c .before .before .before .before .before .before .before .before .before .loop in
+    fills-step (a .kinds .now) (a .ages .now) (a .counts .now) (a .ku) (a .kl) (a .work .now) (g .pre .0) (l .i) (l .work) (c .before .before .before .before .before .spread .last .0) (c .before .before .before .before .before .before .before .before .loop-test .taken) (l .inv)
+    (rw (c .before .before .before .before .before .before .before .stop-at .ensures) at (c .before .before .before .before .before .spread .ensures)) (rw (c .if1 .left) at (c .before .bare .ensures))
 
 same-length-2 : tie.Need-same-length-2 Inv-loop μ-loop
 same-length-2 c = c .before .loop .inv .long
@@ -85,9 +81,7 @@ forward-spec =
     Inv-loop
     μ-loop
     loop-holds
-    shared-slice-read-t12
-    shared-slice-read-t14
-    shared-slice-read-t16
+    stop-at-requires
     spread-requires
     bare-requires
     same-length
