@@ -19,12 +19,14 @@ use Rattle.orders.proofs.Ways.{way-start, way-none, steps-length}
 use Rattle.orders.proofs.Nodes.{way-on, way-back, stop-ready, rank-below}
 
 -- the ranks before a node are those of ways
-pub way-source : (ku kl : ℕ) (ss : List Step) (i : ℕ) (s : List ℕ) (r : ℕ) → Filled ku kl ss i s → Way ku kl (take i ss) r → source s i r ≡ true
+pub way-source : (ku kl : ℕ) (ss : List Step) (i : ℕ) (s : List ℕ) (r : ℕ) → Filled ku kl ss i s → Way ku kl (take i ss) r →
+    source s i r ≡ true
 unfolding source
 way-source ku kl ss zero s r f w = eq-eqb r 0 (sym (way-none ku kl r w))
 way-source ku kl ss (suc g) s r f w = f .full g r (omega arith) w
 
-pub source-way : (ku kl : ℕ) (ss : List Step) (i : ℕ) (s : List ℕ) (r : ℕ) → Filled ku kl ss i s → r < ranks → source s i r ≡ true → Way ku kl (take i ss) r
+pub source-way : (ku kl : ℕ) (ss : List Step) (i : ℕ) (s : List ℕ) (r : ℕ) → Filled ku kl ss i s → r < ranks → source s i r ≡ true →
+    Way ku kl (take i ss) r
 unfolding source
 source-way ku kl ss zero s r f l e = rw (eqb-true r 0 e) (way-start ku kl)
 source-way ku kl ss (suc g) s r f l e = f .sound g r (omega arith) l e
@@ -51,7 +53,8 @@ module _ (ks xs cs : List ℕ) (ku kl : ℕ) (s₀ : List ℕ) (given : Given ks
         passes = record { end = 0; way = way-start ku kl };
       }
 
-  module _ (i : ℕ) (s t : List ℕ) (l : i < length ks) (f : Fills ks xs cs ku kl s₀ i s) (a : Exactly s i (Reached (stopOf ks xs cs ku kl i) s i) t) where
+  module _ (i : ℕ) (s t : List ℕ) (l : i < length ks) (f : Fills ks xs cs ku kl s₀ i s)
+      (a : Exactly s i (Reached (stopOf ks xs cs ku kl i) s i) t) where
     reached-way : (x : ℕ) → Reached (stopOf ks xs cs ku kl i) s i x → Way ku kl (take (suc i) ss) x
     reached-way x r =
         let p = f .passes in
@@ -102,7 +105,8 @@ module _ (ks xs cs : List ℕ) (ku kl : ℕ) (s₀ : List ℕ) (given : Given ks
           within = rw (steps-length ks xs cs) (f .within);
           filled = record {
             sound = λ g x m h e. f .filled .sound g x m h (sym (a .others g x h (λ q. omega arith)) ∙ e);
-            full = λ g x m w. a .others g x (rank-below ks xs cs ku kl (suc g) s₀ x given w) (λ q. omega arith) ∙ f .filled .full g x m w;
+            full = λ g x m w. a .others g x (rank-below ks xs cs ku kl (suc g) s₀ x given w)
+                (λ q. omega arith) ∙ f .filled .full g x m w;
           };
           passes = f .passes;
           stuck = λ m p. z (p .end) (rank-below ks xs cs ku kl (suc i) s₀ (p .end) given (p .way)) (way-now (p .end) (p .way));

@@ -121,7 +121,13 @@ hop-made ku kl (suc zero) a b r p x e =
 hop-made ku kl (suc (suc zero)) a b r p x e =
     let (t, q) = kept (eqb p (atOf a b r) && fits ku kl (suc p) b) (lessOf a b r) x e in
     let f : Fits ku kl (suc p) b = fits-fits ku kl (suc p) b (both (eqb p (atOf a b r)) (fits ku kl (suc p) b) t .1) in
-    record { kind = omega arith; room = omega arith; left-open = omega arith; lands = λ h l. rw (← q) (less-lt a b r (h (omega arith)) l) }
+    record {
+      kind = omega arith;
+      room = omega arith;
+      left-open = omega arith;
+      lands = λ h l. rw (← q)
+          (less-lt a b r (h (omega arith)) l);
+    }
 hop-made ku kl (suc (suc (suc k))) a b r p x e = let z : _≡_ {A = ℕ} 0 1 = cc in absurd (omega arith)
 
 -- at a sound stop a hop has one of six capacity, and lands on a rank of the gap

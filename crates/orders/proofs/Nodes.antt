@@ -44,7 +44,8 @@ module _ (ks xs cs : List ℕ) (ku kl : ℕ) where
     pub ahead-on : (r x : ℕ) → Leads (stopOf ks xs cs ku kl i) r x → Ahead ku kl (drop (suc i) ss) x → Ahead ku kl (drop i ss) r
     ahead-on r x h a = rw (drop-cons ss i none inside) (ahead-more ku kl (getD ss i none) (drop (suc i) ss) r x (hopped r x h) a)
 
-    pub ahead-back : (r : ℕ) → Ahead ku kl (drop i ss) r → (x : ℕ) × Leads (stopOf ks xs cs ku kl i) r x × Ahead ku kl (drop (suc i) ss) x
+    pub ahead-back : (r : ℕ) → Ahead ku kl (drop i ss) r →
+        (x : ℕ) × Leads (stopOf ks xs cs ku kl i) r x × Ahead ku kl (drop (suc i) ss) x
     ahead-back r a =
         let b : Ahead ku kl (getD ss i none ∷ drop (suc i) ss) r = rw (drop-cons ss i none inside) at a in
         let (x, h, c) = ahead-less ku kl (getD ss i none) (drop (suc i) ss) r b in

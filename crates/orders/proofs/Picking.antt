@@ -82,7 +82,8 @@ module _ (ks xs cs : List ℕ) (ku kl : ℕ) (s : List ℕ) (given : Given ks xs
         let (y, h, a) = ahead-back ks xs cs ku kl i l r (k .ahead) in
         m (h .at) y (h .lands) (lands-kept (h .at) y (h .lands) a)
 
-    pub picks-step : (p x : ℕ) → length ks ≤ 512 → Least (stopOf ks xs cs ku kl i) s i r p x → Picks ks xs cs ku kl (set ps i p) (i + 1) x
+    pub picks-step : (p x : ℕ) → length ks ≤ 512 → Least (stopOf ks xs cs ku kl i) s i r p x →
+        Picks ks xs cs ku kl (set ps i p) (i + 1) x
     picks-step p x few m =
         let a : Ahead ku kl (drop (suc i) ss) x = kept .sound i x inside (m .lands .within) (m .lands .kept) in
         rw (add-one i)
@@ -91,7 +92,8 @@ module _ (ks xs cs : List ℕ) (ku kl : ℕ) (s : List ℕ) (given : Given ks xs
           within = omega arith;
           way = way-on ks xs cs ku kl i l r x (k .way) (record { at = p; lands = m .lands .lands });
           ahead = a;
-          rest = λ ws f. rw (take-suc-set ps i p (omega (arith, k .cells))) (rw (append-snoc (take i ps) p ws) (k .rest (p ∷ ws) (more ws f)));
+          rest = λ ws f. rw (take-suc-set ps i p (omega (arith, k .cells)))
+              (rw (append-snoc (take i ps) p ws) (k .rest (p ∷ ws) (more ws f)));
         })
       where
         more : (ws : List ℕ) → First ku kl (drop (suc i) ss) x ws → First ku kl (drop i ss) r (p ∷ ws)

@@ -13,6 +13,7 @@ use Rattle.orders.specs.Ranks.{capacity, fact}
 use Rattle.orders.specs.Sets.{ranks, marked, source, Set, Empty, Gains, Exactly}
 use Rattle.orders.specs.Stops.{hopAt, Sound}
 use Rattle.orders.specs.Passes.{Leads, Reached, Misses}
+use Rattle.orders.proofs.Bits.{not-both}
 use Rattle.orders.proofs.Hops.{stop-lands, none-some, same-some}
 use Rattle.orders.proofs.Gains.{gains-none, gains-map, gains-one, gains-join, gains-source, gains-exactly}
 
@@ -42,7 +43,8 @@ module _ (s : List ℕ) (g : ℕ) (t : Stop) (r : ℕ) where
   pub fan-start : Gains s g (Fan t r 0) s
   fan-start = gains-none s g (Fan t r 0) (λ x f. omega (arith, f .below))
 
-  pub fan-step : (k : ℕ) (u v : List ℕ) → Gains s g (Fan t r k) u → Gains u g (λ x. hopAt t r k ≡ some x) v → Gains s g (Fan t r (k + 1)) v
+  pub fan-step : (k : ℕ) (u v : List ℕ) → Gains s g (Fan t r k) u → Gains u g (λ x. hopAt t r k ≡ some x) v →
+      Gains s g (Fan t r (k + 1)) v
   fan-step k u v a b =
       gains-map s g (λ x. Fan t r k x ⊎ (hopAt t r k ≡ some x)) (Fan t r (k + 1)) v to from
       (gains-join s g (Fan t r k) (λ x. hopAt t r k ≡ some x) u v a b)
@@ -63,7 +65,7 @@ module _ (s : List ℕ) (g : ℕ) (t : Stop) (r : ℕ) where
 
   -- where rank r is none before the node
   pub fan-unless : source s g r ≡ false → Gains s g (λ x. (source s g r ≡ true) × Leads t r x) s
-  fan-unless e = gains-none s g (λ x. (source s g r ≡ true) × Leads t r x) (λ x p. let z : _≡_ {A = Bool} false true = cc in let y : _≡_ {A = ℕ} 0 1 = cc in omega arith)
+  fan-unless e = gains-none s g (λ x. (source s g r ≡ true) × Leads t r x) (λ x p. not-both e (p .0))
 
   pub fan-where : (u : List ℕ) → source s g r ≡ true → Gains s g (Leads t r) u → Gains s g (λ x. (source s g r ≡ true) × Leads t r x) u
   fan-where u e a = gains-map s g (Leads t r) (λ x. (source s g r ≡ true) × Leads t r x) u (λ x f. (e, f)) (λ x p. p .1) a
@@ -110,7 +112,8 @@ module _ (t : Stop) (s : List ℕ) (g r : ℕ) where
   pub misses-more : (p : ℕ) → ((q : ℕ) → q < p → Misses t s g r q) → Misses t s g r p → (q : ℕ) → q < p + 1 → Misses t s g r q
   misses-more p f m q l = last-or (Misses t s g r q) q p l (λ e. rw e m) (f q)
 
-  pub misses-all : (p : ℕ) → Sound t → r < fact (t .count) → capacity ≤ p → ((q : ℕ) → q < p → Misses t s g r q) → (q : ℕ) → Misses t s g r q
+  pub misses-all : (p : ℕ) → Sound t → r < fact (t .count) → capacity ≤ p → ((q : ℕ) → q < p → Misses t s g r q) → (q : ℕ) →
+      Misses t s g r q
   misses-all p h l m f q x e k = f q (omega (arith, stop-lands t r q x h l e)) x e k
 
   pub misses-none : {o : Option ℕ} → o ≡ none → (x : ℕ) → o ≡ some x → marked s g x ≡ true → ⊥

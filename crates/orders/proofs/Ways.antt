@@ -81,7 +81,8 @@ module _ (ku kl : ℕ) where
   pub way-none : (x : ℕ) → Way ku kl [] x → 0 ≡ x
   way-none x w = hops-nil 0 x (w .ps) (w .runs) .1
 
-  pub way-more : (ss : List Step) (i : ℕ) (d : Step) (r x : ℕ) → i < length ss → Way ku kl (take i ss) r → Hopped ku kl (getD ss i d) r x →
+  pub way-more : (ss : List Step) (i : ℕ) (d : Step) (r x : ℕ) → i < length ss → Way ku kl (take i ss) r →
+      Hopped ku kl (getD ss i d) r x →
       Way ku kl (take (suc i) ss) x
   way-more ss i d r x l w h =
       rw (take-suc ss i d l)
@@ -107,7 +108,8 @@ module _ (ku kl : ℕ) where
       (y, record { at = p; lands = h }, record { ps = qs; end = a .end; runs = k })
 
   -- the first steps of a run are passed too
-  hops-take : (i : ℕ) (ss : List Step) (r x : ℕ) (ps : List ℕ) → hops ku kl ss r ps ≡ some x → (qs : List ℕ) × (y : ℕ) × (hops ku kl (take i ss) r qs ≡ some y)
+  hops-take : (i : ℕ) (ss : List Step) (r x : ℕ) (ps : List ℕ) → hops ku kl ss r ps ≡ some x →
+      (qs : List ℕ) × (y : ℕ) × (hops ku kl (take i ss) r qs ≡ some y)
   hops-take zero ss r x ps e = ([], r, hops-start r)
   hops-take (suc i) [] r x ps e = ([], r, hops-start r)
   hops-take (suc i) (s ∷ ss) r x ps e =

@@ -44,13 +44,15 @@ loop-again : tie.Need-loop-again Inv-loop μ-loop
 loop-again c =
     let g = c .before .before .before .before .before .before .args in
     let l = c .before .before .before .before .loop in
-    misses-more (g .stop) (g .work .now) (g .g) (g .r) (l .p) (l .inv) (rw (c .enum-told .given .1) at (c .before .before .land .ensures))
+    misses-more (g .stop) (g .work .now) (g .g) (g .r) (l .p) (l .inv)
+    (rw (c .enum-told .given .1) at (c .before .before .land .ensures))
 
 returns-2 : tie.Need-returns-2 Inv-loop μ-loop
 returns-2 c =
     let g = c .before .before .before in
     let l = c .before .loop in
-    misses-all (g .args .stop) (g .args .work .now) (g .args .g) (g .args .r) (l .p) (g .pre .0 .0) (g .pre .1) (c .loop-test .left) (l .inv)
+    misses-all (g .args .stop) (g .args .work .now) (g .args .g) (g .args .r) (l .p) (g .pre .0 .0) (g .pre .1) (c .loop-test .left)
+    (l .inv)
 
 pub choose-spec : {M : Type 1} → statement M
 choose-spec =

@@ -31,24 +31,34 @@ spread-requires c κs =
     let l = c .before .before .before .loop in
     let p = l .inv .passes in
     let t = c .before .before .loop-test .taken in
-    let s = stop-ready (a .kinds .now) (a .ages .now) (a .counts .now) (a .ku) (a .kl) (l .i) t (a .work .now) (p .end) (g .pre .0) (p .way) .0 in
-    ((rw (c .before .stop-at .ensures) s, omega (arith, g .pre .0 .room, l .inv .long, t)), λ x h e. l .inv .empty (l .i) x (omega arith) h e)
+    let s = stop-ready (a .kinds .now) (a .ages .now) (a .counts .now) (a .ku) (a .kl) (l .i) t (a .work .now) (p .end) (g .pre .0)
+    (p .way) .0 in (
+      (rw (c .before .stop-at .ensures) s, omega (arith, g .pre .0 .room, l .inv .long, t)),
+      λ x h e. l .inv .empty (l .i) x
+          (omega arith) h e,
+    )
 
 bare-requires : tie.Need-bare-requires Inv-loop μ-loop
 bare-requires c κs =
     let l = c .before .before .before .before .before .before .before .loop in
-    omega (arith, c .before .before .before .before .before .before .before .before .before .before .before .before .pre .0 .room, l .inv .long, c .before .before .before .spread .ensures .long, c .before .before .before .before .before .before .loop-test .taken)
+    let room = c .before .before .before .before .before .before .before .before .before .before .before .before .pre .0 .room in
+    omega (arith, room, l .inv .long, c .before .before .before .spread .ensures .long, c .before .before .before .before .before .before .loop-test .taken)
 
 same-length : tie.Need-same-length Inv-loop μ-loop
-same-length c = c .before .before .before .before .before .spread .ensures .long ∙ c .before .before .before .before .before .before .before .before .before .loop .inv .long
+same-length c =
+    let l = c .before .before .before .before .before .before .before .before .before .loop in
+    c .before .before .before .before .before .spread .ensures .long ∙ l .inv .long
 
 returns : tie.Need-returns Inv-loop μ-loop
 returns c =
     let g = c .before .before .before .before .before .before .before .before .before .before .before .before .before .before in
     let a = g .args in
     let l = c .before .before .before .before .before .before .before .before .before .loop in
-    fills-stuck (a .kinds .now) (a .ages .now) (a .counts .now) (a .ku) (a .kl) (a .work .now) (g .pre .0) (l .i) (l .work) (c .before .before .before .before .before .spread .last .0) (c .before .before .before .before .before .before .before .before .loop-test .taken) (l .inv)
-    (rw (c .before .before .before .before .before .before .before .stop-at .ensures) at (c .before .before .before .before .before .spread .ensures)) (rw (c .if1 .taken) at (c .before .bare .ensures))
+    fills-stuck (a .kinds .now) (a .ages .now) (a .counts .now) (a .ku) (a .kl) (a .work .now) (g .pre .0) (l .i) (l .work)
+    (c .before .before .before .before .before .spread .last .0)
+    (c .before .before .before .before .before .before .before .before .loop-test .taken) (l .inv)
+    (rw (c .before .before .before .before .before .before .before .stop-at .ensures) at
+    (c .before .before .before .before .before .spread .ensures)) (rw (c .if1 .taken) at (c .before .bare .ensures))
 
 add-i : tie.Need-add-i Inv-loop μ-loop
 add-i c = omega arith
@@ -61,8 +71,11 @@ loop-again c =
     let g = c .before .before .before .before .before .before .before .before .before .before .before .before .before .before in
     let a = g .args in
     let l = c .before .before .before .before .before .before .before .before .before .loop in
-    fills-step (a .kinds .now) (a .ages .now) (a .counts .now) (a .ku) (a .kl) (a .work .now) (g .pre .0) (l .i) (l .work) (c .before .before .before .before .before .spread .last .0) (c .before .before .before .before .before .before .before .before .loop-test .taken) (l .inv)
-    (rw (c .before .before .before .before .before .before .before .stop-at .ensures) at (c .before .before .before .before .before .spread .ensures)) (rw (c .if1 .left) at (c .before .bare .ensures))
+    fills-step (a .kinds .now) (a .ages .now) (a .counts .now) (a .ku) (a .kl) (a .work .now) (g .pre .0) (l .i) (l .work)
+    (c .before .before .before .before .before .spread .last .0)
+    (c .before .before .before .before .before .before .before .before .loop-test .taken) (l .inv)
+    (rw (c .before .before .before .before .before .before .before .stop-at .ensures) at
+    (c .before .before .before .before .before .spread .ensures)) (rw (c .if1 .left) at (c .before .bare .ensures))
 
 same-length-2 : tie.Need-same-length-2 Inv-loop μ-loop
 same-length-2 c = c .before .loop .inv .long
@@ -72,7 +85,8 @@ returns-2 c =
     let g = c .before .before .before .before .before .before in
     let a = g .args in
     let l = c .before .loop in
-    fills-end (a .kinds .now) (a .ages .now) (a .counts .now) (a .ku) (a .kl) (a .work .now) (g .pre .0) (l .i) (l .work) (c .loop-test .left) (l .inv)
+    fills-end (a .kinds .now) (a .ages .now) (a .counts .now) (a .ku) (a .kl) (a .work .now) (g .pre .0) (l .i) (l .work)
+    (c .loop-test .left) (l .inv)
 
 pub forward-spec : {M : Type 1} → statement M
 forward-spec =

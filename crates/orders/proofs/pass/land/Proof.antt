@@ -32,7 +32,8 @@ is-marked-requires c κs =
     let o = hopAt (g .args .stop) (g .args .r) (g .args .p) in
     record {
       gap = g .pre .0 .1;
-      rank = stop-lands (g .args .stop) (g .args .r) (g .args .p) (x .0 .0) (g .pre .0 .0) (g .pre .1) (told-to o (x .0 .0) (sym (x .1) ∙ c .before .before .before .hop .ensures)) .1;
+      rank = stop-lands (g .args .stop) (g .args .r) (g .args .p) (x .0 .0) (g .pre .0 .0) (g .pre .1)
+          (told-to o (x .0 .0) (sym (x .1) ∙ c .before .before .before .hop .ensures)) .1;
     }
 
 returns-2 : tie.Need-returns-2

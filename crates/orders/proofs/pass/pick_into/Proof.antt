@@ -17,7 +17,8 @@ loop-holds : tie.Need-loop-holds Inv-loop μ-loop
 loop-holds c =
     let g = c .before .before .before .before .before in
     let a = g .args in
-    picks-start (a .kinds .now) (a .ages .now) (a .counts .now) (a .ku) (a .kl) (a .work .now) (g .pre .0) (g .pre .1 .0) (a .old .ps) (g .pre .1 .1 .1 .1) (g .pre .1 .1 .0)
+    picks-start (a .kinds .now) (a .ages .now) (a .counts .now) (a .ku) (a .kl) (a .work .now) (g .pre .0) (g .pre .1 .0) (a .old .ps)
+    (g .pre .1 .1 .1 .1) (g .pre .1 .1 .0)
 
 stop-at-requires : tie.Need-stop-at-requires Inv-loop μ-loop
 stop-at-requires c κs =
@@ -30,7 +31,8 @@ choose-requires c κs =
     let a = g .args in
     let l = c .before .before .loop in
     let t = c .before .loop-test .taken in
-    let s = stop-ready (a .kinds .now) (a .ages .now) (a .counts .now) (a .ku) (a .kl) (l .i) t (a .work .now) (l .r) (g .pre .0) (l .inv .way) in
+    let s = stop-ready (a .kinds .now) (a .ages .now) (a .counts .now) (a .ku) (a .kl) (l .i) t (a .work .now) (l .r) (g .pre .0)
+    (l .inv .way) in
     rw (c .stop-at .ensures) ((s .0, omega (arith, g .pre .0 .room, t)), s .1)
 
 enum-known-p : tie.Need-enum-known-p Inv-loop μ-loop
@@ -45,7 +47,8 @@ returns c =
     let a = g .args in
     let l = c .before .before .before .before .before .loop in
     let e = rw (c .before .before .before .stop-at .ensures) at (rw (c .enum-told .given .1) at (c .before .before .choose .ensures)) in
-    absurd (never-stuck (a .kinds .now) (a .ages .now) (a .counts .now) (a .ku) (a .kl) (a .work .now) (g .pre .0) (g .pre .1 .0) (l .i) (l .r) (l .ps) (c .before .before .before .before .loop-test .taken) (l .inv) e)
+    absurd (never-stuck (a .kinds .now) (a .ages .now) (a .counts .now) (a .ku) (a .kl) (a .work .now) (g .pre .0) (g .pre .1 .0) (l .i)
+    (l .r) (l .ps) (c .before .before .before .before .loop-test .taken) (l .inv) e)
 
 cast-ps : tie.Need-cast-ps Inv-loop μ-loop
 cast-ps c =
@@ -53,10 +56,14 @@ cast-ps c =
     omega (arith, m .low)
 
 array-write-ps : tie.Need-array-write-ps Inv-loop μ-loop
-array-write-ps c = omega (arith, c .before .before .before .before .before .before .before .before .before .before .before .before .pre .1 .1 .1 .0, c .before .before .before .before .before .loop-test .taken)
+array-write-ps c =
+    let few = c .before .before .before .before .before .before .before .before .before .before .before .before .pre .1 .1 .1 .0 in
+    omega (arith, few, c .before .before .before .before .before .loop-test .taken)
 
 add-i : tie.Need-add-i Inv-loop μ-loop
-add-i c = omega (arith, c .before .before .before .before .before .before .before .before .before .before .before .before .pre .1 .1 .1 .0, c .before .before .before .before .before .loop-test .taken)
+add-i c =
+    let few = c .before .before .before .before .before .before .before .before .before .before .before .before .pre .1 .1 .1 .0 in
+    omega (arith, few, c .before .before .before .before .before .loop-test .taken)
 
 loop-less : tie.Need-loop-less Inv-loop μ-loop
 loop-less c = omega (arith, c .before .before .before .before .before .loop-test .taken)
@@ -68,7 +75,8 @@ loop-again c =
     let l = c .before .before .before .before .before .before .loop in
     let w = c .before .p .given in
     let e = rw (c .before .before .before .before .stop-at .ensures) at (rw (w .1) at (c .before .before .before .choose .ensures)) in
-    picks-step (a .kinds .now) (a .ages .now) (a .counts .now) (a .ku) (a .kl) (a .work .now) (g .pre .0) (g .pre .1 .0) (l .i) (l .r) (l .ps) (c .before .before .before .before .before .loop-test .taken) (l .inv) (w .0 .0) (w .0 .1 .0) (g .pre .1 .1 .1 .0) e
+    picks-step (a .kinds .now) (a .ages .now) (a .counts .now) (a .ku) (a .kl) (a .work .now) (g .pre .0) (g .pre .1 .0) (l .i) (l .r)
+    (l .ps) (c .before .before .before .before .before .loop-test .taken) (l .inv) (w .0 .0) (w .0 .1 .0) (g .pre .1 .1 .1 .0) e
 
 returns-2 : tie.Need-returns-2 Inv-loop μ-loop
 returns-2 c =
@@ -77,7 +85,8 @@ returns-2 c =
     let l = c .before .loop in
     record {
       cells = l .inv .cells;
-      first = picks-end (a .kinds .now) (a .ages .now) (a .counts .now) (a .ku) (a .kl) (a .work .now) (g .pre .0) (g .pre .1 .0) (l .i) (l .r) (l .ps) (c .loop-test .left) (l .inv);
+      first = picks-end (a .kinds .now) (a .ages .now) (a .counts .now) (a .ku) (a .kl) (a .work .now) (g .pre .0) (g .pre .1 .0) (l .i)
+          (l .r) (l .ps) (c .loop-test .left) (l .inv);
     }
 
 pub pick-into-spec : {M : Type 1} → statement M

@@ -38,9 +38,14 @@ prune-set-requires c κs =
     let t = c .before .before .loop-test .taken in
     let ei : l .i ≡ suc (l .i - 1) = omega (arith, t) in
     let eh : l .i - 1 ≡ suc (l .i - 1 - 1) = omega (arith, t) in
-    let s = stop-sound (a .kinds .now) (a .ages .now) (a .counts .now) (a .ku) (a .kl) (l .i - 1) (a .work .now) (omega (arith, l .inv .node, t)) (g .pre .0) (g .pre .1 .1) in
-    let b = mark-below (a .kinds .now) (a .ages .now) (a .counts .now) (a .ku) (a .kl) (a .work .now) (g .pre .0) (g .pre .1 .0) (l .i) (l .i - 1) (l .i - 1 - 1) (l .work) ei eh (l .inv) in
-    ((rw (c .before .stop-at .ensures) s, omega (arith, g .pre .0 .room, l .inv .long, l .inv .node)), rw (c .before .stop-at .ensures) b)
+    let s = stop-sound (a .kinds .now) (a .ages .now) (a .counts .now) (a .ku) (a .kl) (l .i - 1) (a .work .now)
+    (omega (arith, l .inv .node, t)) (g .pre .0) (g .pre .1 .1) in
+    let b = mark-below (a .kinds .now) (a .ages .now) (a .counts .now) (a .ku) (a .kl) (a .work .now) (g .pre .0) (g .pre .1 .0) (l .i)
+    (l .i - 1) (l .i - 1 - 1) (l .work) ei eh (l .inv) in (
+      (rw (c .before .stop-at .ensures) s, omega (arith, g .pre .0 .room, l .inv .long, l .inv .node)),
+      rw
+          (c .before .stop-at .ensures) b,
+    )
 
 loop-less : tie.Need-loop-less Inv-loop μ-loop
 loop-less c = omega (arith, c .before .before .before .before .before .loop-test .taken)
@@ -53,7 +58,8 @@ loop-again c =
     let t = c .before .before .before .before .before .loop-test .taken in
     let ei : l .i ≡ suc (l .i - 1) = omega (arith, t) in
     let eh : l .i - 1 ≡ suc (l .i - 1 - 1) = omega (arith, t) in
-    prunes-step (a .kinds .now) (a .ages .now) (a .counts .now) (a .ku) (a .kl) (a .work .now) (g .pre .0) (g .pre .1 .0) (l .i) (l .i - 1) (l .i - 1 - 1) (l .work) ei eh (l .inv) (c .before .before .prune-set .last .0)
+    prunes-step (a .kinds .now) (a .ages .now) (a .counts .now) (a .ku) (a .kl) (a .work .now) (g .pre .0) (g .pre .1 .0) (l .i)
+    (l .i - 1) (l .i - 1 - 1) (l .work) ei eh (l .inv) (c .before .before .prune-set .last .0)
     (rw (c .before .before .before .before .stop-at .ensures) at (c .before .before .prune-set .ensures))
 
 same-length : tie.Need-same-length Inv-loop μ-loop
@@ -64,7 +70,8 @@ returns c =
     let g = c .before .before .before .before .before .before in
     let a = g .args in
     let l = c .before .loop in
-    prunes-end (a .kinds .now) (a .ages .now) (a .counts .now) (a .ku) (a .kl) (a .work .now) (g .pre .0) (g .pre .1 .0) (l .i) (l .work) (c .loop-test .left) (l .inv)
+    prunes-end (a .kinds .now) (a .ages .now) (a .counts .now) (a .ku) (a .kl) (a .work .now) (g .pre .0) (g .pre .1 .0) (l .i)
+    (l .work) (c .loop-test .left) (l .inv)
 
 pub prune-spec : {M : Type 1} → statement M
 prune-spec =

@@ -27,8 +27,11 @@ loop-holds c =
 
 prune-rank-requires : tie.Need-prune-rank-requires Inv-loop μ-loop
 prune-rank-requires c κs =
-    let g = c .before .before .before .before .before .before in
-    ((g .pre .0 .0, omega (arith, g .pre .0 .1, c .before .before .loop .inv .0 .long)), rw (← c .before .before .before .factorial .ensures .value) (c .before .loop-test .taken))
+    let g = c .before .before .before .before .before .before in (
+      (g .pre .0 .0, omega (arith, g .pre .0 .1, c .before .before .loop .inv .0 .long)),
+      rw
+          (← c .before .before .before .factorial .ensures .value) (c .before .loop-test .taken),
+    )
 
 add-r : tie.Need-add-r Inv-loop μ-loop
 add-r c = omega arith
@@ -39,8 +42,11 @@ loop-less c = omega arith
 loop-again : tie.Need-loop-again Inv-loop μ-loop
 loop-again c =
     let g = c .before .before .before .before .before .before .before .before .before .args in
-    let l = c .before .before .before .before .before .loop in
-    (ranks-step (g .work .now) (g .g) (g .stop) (l .r) (l .work) (c .before .before .prune-rank .last .0) (l .inv .0) (c .before .before .prune-rank .ensures), omega arith)
+    let l = c .before .before .before .before .before .loop in (
+      ranks-step (g .work .now) (g .g) (g .stop) (l .r) (l .work) (c .before .before .prune-rank .last .0) (l .inv .0)
+          (c .before .before .prune-rank .ensures),
+      omega arith,
+    )
 
 same-length : tie.Need-same-length Inv-loop μ-loop
 same-length c = c .before .loop .inv .0 .long

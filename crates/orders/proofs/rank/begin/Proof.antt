@@ -31,13 +31,15 @@ factorial-requires c κs = search needs
 mul-t10 : tie.Need-mul-t10
 mul-t10 c =
     let g = c .before .before .before .before .args in
-    let s = fit-small (g .stop .ku) (g .stop .kl) (g .p) (g .stop .count + 1) (sym (c .before .before .fit .ensures) ∙ c .before .if1 .taken) (omega arith) (omega arith) in
+    let s = fit-small (g .stop .ku) (g .stop .kl) (g .p) (g .stop .count + 1)
+    (sym (c .before .before .fit .ensures) ∙ c .before .if1 .taken) (omega arith) (omega arith) in
     omega (arith, mul-le-mul (s .0) (c .factorial .ensures .most))
 
 add-t11 : tie.Need-add-t11
 add-t11 c =
     let g = c .before .before .before .before .args in
-    let s = fit-small (g .stop .ku) (g .stop .kl) (g .p) (g .stop .count + 1) (sym (c .before .before .fit .ensures) ∙ c .before .if1 .taken) (omega arith) (omega arith) in
+    let s = fit-small (g .stop .ku) (g .stop .kl) (g .p) (g .stop .count + 1)
+    (sym (c .before .before .fit .ensures) ∙ c .before .if1 .taken) (omega arith) (omega arith) in
     omega (arith, mul-le-mul (s .0) (c .factorial .ensures .most), fact-six (g .stop .count) (omega arith))
 
 returns : tie.Need-returns

@@ -33,7 +33,8 @@ loop-again : tie.Need-loop-again Inv-loop μ-loop
 loop-again c =
     let g = c .before .before .before .before .before .before .before .args in
     let l = c .before .before .before .before .before .loop in
-    fan-step (g .work .now) (g .g) (g .stop) (g .r) (l .p) (l .work) (c .before .before .leap .last .0) (l .inv) (c .before .before .leap .ensures)
+    fan-step (g .work .now) (g .g) (g .stop) (g .r) (l .p) (l .work) (c .before .before .leap .last .0) (l .inv)
+    (c .before .before .leap .ensures)
 
 same-length : tie.Need-same-length Inv-loop μ-loop
 same-length c = c .before .loop .inv .long
@@ -42,7 +43,8 @@ returns : tie.Need-returns Inv-loop μ-loop
 returns c =
     let g = c .before .before .before in
     let l = c .before .loop in
-    fan-end (g .args .work .now) (g .args .g) (g .args .stop) (g .args .r) (l .p) (l .work) (g .pre .0 .0) (g .pre .1) (c .loop-test .left) (l .inv)
+    fan-end (g .args .work .now) (g .args .g) (g .args .stop) (g .args .r) (l .p) (l .work) (g .pre .0 .0) (g .pre .1)
+    (c .loop-test .left) (l .inv)
 
 pub fan-spec : {M : Type 1} → statement M
 fan-spec =

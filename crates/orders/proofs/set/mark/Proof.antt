@@ -26,7 +26,8 @@ same-length-2 c = search needs
 returns-2 : tie.Need-returns-2
 returns-2 c =
     let g = c .before .before .before .before .before .before .before .before .args in
-    set-turned (g .work .now) (g .g) (g .r) false (c .before .before .turn .last .0) (c .before .before .turn .ensures) (sym (c .before .before .before .before .before .is-marked .ensures) ∙ c .before .before .before .before .if1 .left)
+    set-turned (g .work .now) (g .g) (g .r) false (c .before .before .turn .last .0) (c .before .before .turn .ensures)
+    (sym (c .before .before .before .before .before .is-marked .ensures) ∙ c .before .before .before .before .if1 .left)
 
 pub mark-spec : {M : Type 1} → statement M
 mark-spec =

@@ -18,7 +18,8 @@ same-length c = search needs
 returns : tie.Need-returns
 returns c =
     let g = c .before .before .before .before .before .before .before .before .args in
-    set-turned (g .work .now) (g .g) (g .r) true (c .before .before .turn .last .0) (c .before .before .turn .ensures) (sym (c .before .before .before .before .before .is-marked .ensures) ∙ c .before .before .before .before .if1 .taken)
+    set-turned (g .work .now) (g .g) (g .r) true (c .before .before .turn .last .0) (c .before .before .turn .ensures)
+    (sym (c .before .before .before .before .before .is-marked .ensures) ∙ c .before .before .before .before .if1 .taken)
 
 same-length-2 : tie.Need-same-length-2
 same-length-2 c = search needs
