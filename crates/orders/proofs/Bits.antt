@@ -58,12 +58,16 @@ differ-one (suc (suc x)) h = absurd (omega arith)
 -- the low bit of two numbers that differ in it or not
 low-same : (a b : ℕ) → b % 2 ≡ 0 → bitXor a b % 2 ≡ a % 2
 low-same a b e =
-    let w : bitXor a b ≡ bitXor (a / 2) (b / 2) * 2 + a % 2 = xor-step a b ∙ ap (λ (d : ℕ). bitXor (a / 2) (b / 2) * 2 + differ (a % 2) d) e ∙ ap (λ (d : ℕ). bitXor (a / 2) (b / 2) * 2 + d) (differ-none (a % 2)) in
+    let w : bitXor a b ≡ bitXor (a / 2) (b / 2) * 2 + a % 2 = xor-step a b ∙ ap
+    (λ (d : ℕ). bitXor (a / 2) (b / 2) * 2 + differ (a % 2) d) e ∙ ap (λ (d : ℕ). bitXor (a / 2) (b / 2) * 2 + d)
+    (differ-none (a % 2)) in
     omega arith
 
 low-turned : (a b : ℕ) → b % 2 ≡ 1 → bitXor a b % 2 ≡ 1 - a % 2
 low-turned a b e =
-    let w : bitXor a b ≡ bitXor (a / 2) (b / 2) * 2 + (1 - a % 2) = xor-step a b ∙ ap (λ (d : ℕ). bitXor (a / 2) (b / 2) * 2 + differ (a % 2) d) e ∙ ap (λ (d : ℕ). bitXor (a / 2) (b / 2) * 2 + d) (differ-one (a % 2) (omega arith)) in
+    let w : bitXor a b ≡ bitXor (a / 2) (b / 2) * 2 + (1 - a % 2) = xor-step a b ∙ ap
+    (λ (d : ℕ). bitXor (a / 2) (b / 2) * 2 + differ (a % 2) d) e ∙ ap (λ (d : ℕ). bitXor (a / 2) (b / 2) * 2 + d)
+    (differ-one (a % 2) (omega arith)) in
     omega arith
 
 -- bytes with bit k turned over
@@ -118,7 +122,8 @@ turn-set s g r h =
     }
 
 -- a mark turned over where it is known
-pub set-turned : (s : List ℕ) (g r : ℕ) (v : Bool) (t : List ℕ) → Set s g r (not (marked s g r)) t → marked s g r ≡ v → Set s g r (not v) t
+pub set-turned : (s : List ℕ) (g r : ℕ) (v : Bool) (t : List ℕ) → Set s g r (not (marked s g r)) t → marked s g r ≡ v →
+    Set s g r (not v) t
 set-turned s g r v t h e = rw e at h
 
 pub not-both : {t : Bool} → t ≡ false → t ≡ true → ⊥
@@ -142,7 +147,8 @@ pub clear-empty : (s : List ℕ) → ((i : ℕ) → getD s i 0 ≡ 0) → (g x :
 unfolding marked lit
 clear-empty s z g x e =
     let k : ℕ = ranks * g + address x in
-    let w : getD s (k / 8) 0 / 2 ^ (k % 8) % 2 ≡ 0 = ap (λ (d : ℕ). d / 2 ^ (k % 8) % 2) (z (k / 8)) ∙ ap (λ (d : ℕ). d % 2) (zero-div (2 ^ (k % 8))) in
+    let w : getD s (k / 8) 0 / 2 ^ (k % 8) % 2 ≡ 0 = ap (λ (d : ℕ). d / 2 ^ (k % 8) % 2) (z (k / 8)) ∙ ap (λ (d : ℕ). d % 2)
+    (zero-div (2 ^ (k % 8))) in
     let o : getD s (k / 8) 0 / 2 ^ (k % 8) % 2 ≡ 1 = eqb-true (getD s (k / 8) 0 / 2 ^ (k % 8) % 2) 1 e in
     omega arith
 
@@ -169,7 +175,8 @@ module _ (s : List ℕ) (g r k : ℕ) (e : k ≡ address r) where
       ap₂ (λ (i m : ℕ). set s i (bitXor (getD s i 0) (2 ^ m))) byte-at bit-at
 
 -- the first i bytes are 0, and one more is cleared
-pub clear-more : (s : List ℕ) (i : ℕ) → i < length s → ((j : ℕ) → j < i → getD s j 0 ≡ 0) → (j : ℕ) → j < i + 1 → getD (set s i 0) j 0 ≡ 0
+pub clear-more : (s : List ℕ) (i : ℕ) → i < length s → ((j : ℕ) → j < i → getD s j 0 ≡ 0) → (j : ℕ) → j < i + 1 →
+    getD (set s i 0) j 0 ≡ 0
 clear-more s i h z j l = go (eqb j i) refl
   where
     go : (t : Bool) → eqb j i ≡ t → getD (set s i 0) j 0 ≡ 0

@@ -1,32 +1,32 @@
 -- The gaps passed hold exactly the ranks of ways, node by node; where the next gap stays empty no way goes on.
-use mathlib.Core.Path.{_≡_, refl, sym, ap, _∙_}
-use mathlib.Core.Bool.{Bool, true, false}
-use mathlib.Core.List.{List, []}
-use mathlib.Core.Logic.{_⊎_, inl, inr, ⊎-elim}
+use mathlib.Core.Path.{_≡_, refl, sym, _∙_}
+use mathlib.Core.Bool.{true}
+use mathlib.Core.List.{List}
 use Prim.Native.Nat.{ℕ, zero, suc, _+_, _≤_, _<_}
 use native.Mathlib.Numerals.{add-one}
 use native.Mathlib.Omega.{arith}
-use lib.ListN.{length, getD, take, drop}
-use lib.Dec.{eqb}
+use lib.ListN.{length, getD, take}
 use borrow.Author.Tests.{eqb-true, eq-eqb}
-use Rattle.orders.specs.declared.rank.Stop.{Stop}
 use Rattle.orders.specs.Plan.{Step, steps}
-use Rattle.orders.specs.Ranks.{fact, Way}
-use Rattle.orders.specs.Sets.{ranks, marked, source, Gains, Empty, Some, Clear}
-use Rattle.orders.specs.Passes.{Leads, Reached, Given, Filled, Passes, Forward}
+use Rattle.orders.specs.Ranks.{Way}
+use Rattle.orders.specs.Sets.{ranks, marked, source, Exactly, Empty, Some, Clear}
+use Rattle.orders.specs.Stops.{stopOf}
+use Rattle.orders.specs.Passes.{Reached, Given, Filled, Passable, Forward}
 use Rattle.orders.proofs.Ranks.{fact-six}
 use Rattle.orders.proofs.Bits.{clear-empty}
 use Rattle.orders.proofs.Spreading.{last-or}
 use Rattle.orders.proofs.Ways.{way-start, way-none, steps-length}
-use Rattle.orders.proofs.Nodes.{stopOf, way-on, way-back, stop-ready, rank-below}
+use Rattle.orders.proofs.Nodes.{way-on, way-back, stop-ready, rank-below}
 
 -- the ranks before a node are those of ways
-pub way-source : (ku kl : ℕ) (ss : List Step) (i : ℕ) (s : List ℕ) (r : ℕ) → Filled ku kl ss i s → Way ku kl (take i ss) r → source s i r ≡ true
+pub way-source : (ku kl : ℕ) (ss : List Step) (i : ℕ) (s : List ℕ) (r : ℕ) → Filled ku kl ss i s → Way ku kl (take i ss) r →
+    source s i r ≡ true
 unfolding source
 way-source ku kl ss zero s r f w = eq-eqb r 0 (sym (way-none ku kl r w))
 way-source ku kl ss (suc g) s r f w = f .full g r (omega arith) w
 
-pub source-way : (ku kl : ℕ) (ss : List Step) (i : ℕ) (s : List ℕ) (r : ℕ) → Filled ku kl ss i s → r < ranks → source s i r ≡ true → Way ku kl (take i ss) r
+pub source-way : (ku kl : ℕ) (ss : List Step) (i : ℕ) (s : List ℕ) (r : ℕ) → Filled ku kl ss i s → r < ranks → source s i r ≡ true →
+    Way ku kl (take i ss) r
 unfolding source
 source-way ku kl ss zero s r f l e = rw (eqb-true r 0 e) (way-start ku kl)
 source-way ku kl ss (suc g) s r f l e = f .sound g r (omega arith) l e
@@ -37,7 +37,7 @@ pub record Fills (ks xs cs : List ℕ) (ku kl : ℕ) (s₀ : List ℕ) (i : ℕ)
   pub within : i ≤ length ks
   pub filled : Filled ku kl (steps ks xs cs) i s
   pub empty : (g x : ℕ) → i ≤ g → x < ranks → marked s g x ≡ true → ⊥
-  pub passes : Passes ku kl (take i (steps ks xs cs))
+  pub passes : Passable ku kl (take i (steps ks xs cs))
 
 module _ (ks xs cs : List ℕ) (ku kl : ℕ) (s₀ : List ℕ) (given : Given ks xs cs s₀ ku kl) where
   abbrev ss : List Step
@@ -53,7 +53,8 @@ module _ (ks xs cs : List ℕ) (ku kl : ℕ) (s₀ : List ℕ) (given : Given ks
         passes = record { end = 0; way = way-start ku kl };
       }
 
-  module _ (i : ℕ) (s t : List ℕ) (l : i < length ks) (f : Fills ks xs cs ku kl s₀ i s) (a : Gains s i (Reached (stopOf ks xs cs ku kl i) s i) t) where
+  module _ (i : ℕ) (s t : List ℕ) (l : i < length ks) (f : Fills ks xs cs ku kl s₀ i s)
+      (a : Exactly s i (Reached (stopOf ks xs cs ku kl i) s i) t) where
     reached-way : (x : ℕ) → Reached (stopOf ks xs cs ku kl i) s i x → Way ku kl (take (suc i) ss) x
     reached-way x r =
         let p = f .passes in
@@ -73,7 +74,7 @@ module _ (ks xs cs : List ℕ) (ku kl : ℕ) (s₀ : List ℕ) (given : Given ks
 
     -- gap i now holds the ranks of ways
     now-way : (x : ℕ) → x < ranks → marked t i x ≡ true → Way ku kl (take (suc i) ss) x
-    now-way x h e = ⊎-elim (λ m. absurd (f .empty i x (omega arith) h m)) (reached-way x) (a .sound x h e)
+    now-way x h e = reached-way x (a .sound x h e)
 
     way-now : (x : ℕ) → Way ku kl (take (suc i) ss) x → marked t i x ≡ true
     way-now x w = a .full x (rank-below ks xs cs ku kl (suc i) s₀ x given w) (way-reached x w)
@@ -104,7 +105,8 @@ module _ (ks xs cs : List ℕ) (ku kl : ℕ) (s₀ : List ℕ) (given : Given ks
           within = rw (steps-length ks xs cs) (f .within);
           filled = record {
             sound = λ g x m h e. f .filled .sound g x m h (sym (a .others g x h (λ q. omega arith)) ∙ e);
-            full = λ g x m w. a .others g x (rank-below ks xs cs ku kl (suc g) s₀ x given w) (λ q. omega arith) ∙ f .filled .full g x m w;
+            full = λ g x m w. a .others g x (rank-below ks xs cs ku kl (suc g) s₀ x given w)
+                (λ q. omega arith) ∙ f .filled .full g x m w;
           };
           passes = f .passes;
           stuck = λ m p. z (p .end) (rank-below ks xs cs ku kl (suc i) s₀ (p .end) given (p .way)) (way-now (p .end) (p .way));

@@ -3,13 +3,12 @@ use mathlib.Core.Path.{_≡_, refl, sym, _∙_}
 use mathlib.Core.Bool.{Bool, true, false}
 use mathlib.Core.List.{List}
 use mathlib.Core.Logic.{_⊎_, inl, inr, ⊎-elim}
-use Prim.Native.Nat.{ℕ, zero, suc, _+_, _≤_, _<_}
+use Prim.Native.Nat.{ℕ, zero, suc, _<_}
 use native.Mathlib.Omega.{arith}
-use lib.ListN.{length}
-use lib.Dec.{eqb, ltb}
+use lib.Dec.{eqb}
 use borrow.Author.Tests.{eqb-true, eqb-false}
-use Rattle.orders.specs.Sets.{ranks, marked, source, Set, Gains, Loses}
-use Rattle.orders.proofs.Bits.{not-both, source-gap}
+use Rattle.orders.specs.Sets.{ranks, marked, source, Set, Empty, Gains, Exactly, Loses}
+use Rattle.orders.proofs.Bits.{not-both}
 
 module _ (s : List ℕ) (g : ℕ) where
   pub gains-none : (P : ℕ → Type 0) → ((x : ℕ) → P x → ⊥) → Gains s g P s
@@ -57,6 +56,15 @@ module _ (s : List ℕ) (g : ℕ) where
       sound : (x : ℕ) → x < ranks → (marked t g x ≡ true) ⊎ Q x → (marked s g x ≡ true) ⊎ (P x ⊎ Q x)
       sound x l (inl e) = ⊎-elim (λ p. inl p) (λ p. inr (inl p)) (a .sound x l e)
       sound x l (inr q) = inr (inr q)
+
+  pub gains-exactly : (P : ℕ → Type 0) (t : List ℕ) → Empty s g → Gains s g P t → Exactly s g P t
+  gains-exactly P t z h =
+      record {
+        long = h .long;
+        others = h .others;
+        sound = λ x l e. ⊎-elim (λ m. absurd (z x l m)) (λ p. p) (h .sound x l e);
+        full = h .full;
+      }
 
   -- the ranks before a node stay while its gap changes
   pub gains-source : (P : ℕ → Type 0) (t : List ℕ) (r : ℕ) → r < ranks → Gains s g P t → source t g r ≡ source s g r

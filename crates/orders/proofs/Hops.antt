@@ -1,22 +1,20 @@
 -- A hop is made exactly where the street rules allow it, and leads to a rank of the nets that are then open.
-use mathlib.Core.Path.{_≡_, refl, sym, ap, _∙_}
+use mathlib.Core.Path.{_≡_, refl}
 use mathlib.Core.Bool.{Bool, true, false, _&&_}
-use mathlib.Core.List.{List, [], _∷_}
 use mathlib.Core.Option.{Option, none, some}
-use Prim.Native.Nat.{ℕ, zero, suc, _+_, _-_, _*_, _≤_, _<_}
+use Prim.Native.Nat.{ℕ, zero, suc, _+_, _*_, _≤_, _<_}
 use native.Mathlib.Omega.{arith}
 use lib.Dec.{T, eqb}
-use borrow.Author.Tests.{eq-eqb, ne-eqb, eqb-true}
+use borrow.Author.Tests.{eq-eqb, ne-eqb}
 use Rattle.rules.specs.Basic.{keep}
 use Rattle.rules.specs.Street.{fits}
 use Rattle.rules.specs.Sheet.{kindIn}
 use Rattle.rules.specs.Judgement.{left}
 use Rattle.rules.proofs.Fits.{Fits, fits→, →fits}
-use Rattle.orders.specs.Plan.{Step, step}
-use Rattle.orders.specs.Ranks.{fact, atOf, lessOf, hopOf}
+use Rattle.orders.specs.Plan.{step}
+use Rattle.orders.specs.Ranks.{capacity, fact, atOf, lessOf, hopOf}
 use Rattle.orders.specs.Sets.{ranks}
 use Rattle.orders.specs.Stops.{hopAt, told, Sound}
-use Rattle.orders.specs.Passes.{positions}
 use Rattle.orders.specs.declared.rank.Stop.{Stop}
 use Rattle.orders.specs.declared.rank.Landing.the-variants.{To, Nowhere}
 use Rattle.orders.proofs.Ranks.{rank-lt, less-lt, fact-six}
@@ -123,11 +121,17 @@ hop-made ku kl (suc zero) a b r p x e =
 hop-made ku kl (suc (suc zero)) a b r p x e =
     let (t, q) = kept (eqb p (atOf a b r) && fits ku kl (suc p) b) (lessOf a b r) x e in
     let f : Fits ku kl (suc p) b = fits-fits ku kl (suc p) b (both (eqb p (atOf a b r)) (fits ku kl (suc p) b) t .1) in
-    record { kind = omega arith; room = omega arith; left-open = omega arith; lands = λ h l. rw (← q) (less-lt a b r (h (omega arith)) l) }
+    record {
+      kind = omega arith;
+      room = omega arith;
+      left-open = omega arith;
+      lands = λ h l. rw (← q)
+          (less-lt a b r (h (omega arith)) l);
+    }
 hop-made ku kl (suc (suc (suc k))) a b r p x e = let z : _≡_ {A = ℕ} 0 1 = cc in absurd (omega arith)
 
--- at a sound stop a hop has one of six positions, and lands on a rank of the gap
-pub stop-lands : (t : Stop) (r p x : ℕ) → Sound t → r < fact (t .count) → hopAt t r p ≡ some x → (p < positions) × (x < ranks)
+-- at a sound stop a hop has one of six capacity, and lands on a rank of the gap
+pub stop-lands : (t : Stop) (r p x : ℕ) → Sound t → r < fact (t .count) → hopAt t r p ≡ some x → (p < capacity) × (x < ranks)
 stop-lands t r p x h l e =
     let m = hop-made (t .ku) (t .kl) (t .kind) (t .age) (t .count) r p x e in
     (omega arith, omega (arith, m .lands (h .touched) l, fact-six (left (kindIn (t .kind)) (t .count)) (omega arith)))

@@ -8,3 +8,4 @@ pub mod Nodes
 pub mod Filling
 pub mod Pruning
 pub mod Picking
+pub mod Joining

@@ -1,21 +1,15 @@
 -- The stops that the passes make of the three lists are sound, and ways go on through them.
-use mathlib.Core.Path.{_≡_, refl, sym, ap, _∙_}
-use mathlib.Core.List.{List, [], _∷_}
-use Prim.Native.Nat.{ℕ, suc, _+_, _≤_, _<_}
-use native.Mathlib.Omega.{arith}
+use mathlib.Core.Path.{_≡_}
+use mathlib.Core.List.{List, _∷_}
+use Prim.Native.Nat.{ℕ, suc, _<_}
 use lib.ListN.{length, getD, take, drop}
 use lib.Seq.{drop-cons}
-use Rattle.orders.specs.declared.rank.Stop.{Stop}
-use Rattle.orders.specs.Plan.{Step, step, Steps, steps}
+use Rattle.orders.specs.Plan.{Step, step, steps}
 use Rattle.orders.specs.Ranks.{fact, Way, Ahead}
 use Rattle.orders.specs.Sets.{ranks}
-use Rattle.orders.specs.Stops.{stepOf, Sound}
-use Rattle.orders.specs.Passes.{Leads, Given, Passes}
-use Rattle.orders.proofs.Ways.{Hopped, Ready, way-more, way-less, ahead-more, ahead-less, way-ready, way-below, passes-take, steps-length, steps-at}
-
--- node i of three lists
-abbrev pub stopOf : (ks xs cs : List ℕ) (ku kl i : ℕ) → Stop
-stopOf ks xs cs ku kl i = record { kind = getD ks i 0; age = getD xs i 0; count = getD cs i 0; ku = ku; kl = kl }
+use Rattle.orders.specs.Stops.{stepOf, stopOf, Sound}
+use Rattle.orders.specs.Passes.{Leads, Given, Passable}
+use Rattle.orders.proofs.Ways.{Hopped, way-more, way-less, ahead-more, ahead-less, way-ready, way-below, passes-take, steps-length, steps-at}
 
 module _ (ks xs cs : List ℕ) (ku kl : ℕ) where
   abbrev ss : List Step
@@ -23,9 +17,6 @@ module _ (ks xs cs : List ℕ) (ku kl : ℕ) where
 
   abbrev none : Step
   none = step 0 0 0
-
-  at : ℕ → Stop
-  at i = stopOf ks xs cs ku kl i
 
   module _ (i : ℕ) (l : i < length ks) where
     inside : i < length ss
@@ -53,7 +44,8 @@ module _ (ks xs cs : List ℕ) (ku kl : ℕ) where
     pub ahead-on : (r x : ℕ) → Leads (stopOf ks xs cs ku kl i) r x → Ahead ku kl (drop (suc i) ss) x → Ahead ku kl (drop i ss) r
     ahead-on r x h a = rw (drop-cons ss i none inside) (ahead-more ku kl (getD ss i none) (drop (suc i) ss) r x (hopped r x h) a)
 
-    pub ahead-back : (r : ℕ) → Ahead ku kl (drop i ss) r → (x : ℕ) × Leads (stopOf ks xs cs ku kl i) r x × Ahead ku kl (drop (suc i) ss) x
+    pub ahead-back : (r : ℕ) → Ahead ku kl (drop i ss) r →
+        (x : ℕ) × Leads (stopOf ks xs cs ku kl i) r x × Ahead ku kl (drop (suc i) ss) x
     ahead-back r a =
         let b : Ahead ku kl (getD ss i none ∷ drop (suc i) ss) r = rw (drop-cons ss i none inside) at a in
         let (x, h, c) = ahead-less ku kl (getD ss i none) (drop (suc i) ss) r b in
@@ -66,7 +58,7 @@ module _ (ks xs cs : List ℕ) (ku kl : ℕ) where
         let r = way-ready ku kl (g .upper) (g .lower) i ss none (getD ks i 0) (getD xs i 0) (getD cs i 0) x (g .plan) inside told v in
         (record { few = r .few; touched = r .touched; upper = g .upper; lower = g .lower }, r .rank)
 
-  pub stop-sound : (i : ℕ) (w : List ℕ) → i < length ks → Given ks xs cs w ku kl → Passes ku kl ss → Sound (stopOf ks xs cs ku kl i)
+  pub stop-sound : (i : ℕ) (w : List ℕ) → i < length ks → Given ks xs cs w ku kl → Passable ku kl ss → Sound (stopOf ks xs cs ku kl i)
   stop-sound i w l g p =
       let v = passes-take ku kl i ss p in
       stop-ready i l w (v .end) g (v .way) .0

@@ -1,26 +1,25 @@
 -- The least position that leads on, taken node by node, gives the first positions in reading order that lead through all nodes.
-use mathlib.Core.Path.{_≡_, refl, sym, ap, _∙_}
+use mathlib.Core.Path.{_≡_, refl, sym, _∙_}
 use mathlib.Core.Bool.{Bool, true, false}
 use mathlib.Core.List.{List, [], _∷_, _++_, append-nil}
-use mathlib.Core.Logic.{_⊎_, inl, inr, ⊎-elim}
+use mathlib.Core.Logic.{_⊎_, inl, inr}
 use mathlib.Core.Option.{some}
-use Prim.Native.Nat.{ℕ, zero, suc, _+_, _≤_, _<_}
+use Prim.Native.Nat.{ℕ, suc, _+_, _≤_, _<_}
 use native.Mathlib.Numerals.{add-one}
 use native.Mathlib.Omega.{arith}
-use lib.ListN.{length, getD, take, drop, set, length-set, drop-of-length-le}
+use lib.ListN.{length, take, drop, set, length-set, drop-of-length-le}
 use lib.Seq.{take-suc-set, append-snoc, drop-cons}
 use lib.Dec.{eqb, ltb}
 use borrow.Author.Tests.{eqb-true, eqb-false, ltb-true, ltb-false}
 use Rattle.rules.specs.Street.{Earlier, here, there}
 use Rattle.orders.specs.Plan.{Step, step, steps}
-use Rattle.orders.specs.Ranks.{fact, hopOf, hops, Way, Ahead}
-use Rattle.orders.specs.Sets.{ranks, marked}
-use Rattle.orders.specs.Stops.{stepOf, hopAt, Sound}
-use Rattle.orders.specs.Passes.{Leads, Misses, Least, Given, Kept, Passes, First, Picked}
-use Rattle.orders.specs.declared.pass.Positions.{Positions}
+use Rattle.orders.specs.Ranks.{hopOf, hops, Way, Ahead}
+use Rattle.orders.specs.Sets.{marked}
+use Rattle.orders.specs.Stops.{stopOf, stepOf, hopAt}
+use Rattle.orders.specs.Passes.{Misses, Least, Given, Kept, Passable, First}
 use Rattle.orders.proofs.Hops.{same-some}
 use Rattle.orders.proofs.Ways.{hops-nil, hops-start, hops-first, first-hops, way-start, passes-ahead, steps-length, steps-at}
-use Rattle.orders.proofs.Nodes.{stopOf, way-on, ahead-back, stop-ready}
+use Rattle.orders.proofs.Nodes.{way-on, ahead-back}
 
 module _ (ku kl : ℕ) where
   pub first-none : (r : ℕ) → First ku kl [] r []
@@ -66,7 +65,7 @@ module _ (ks xs cs : List ℕ) (ku kl : ℕ) (s : List ℕ) (given : Given ks xs
   abbrev none : Step
   none = step 0 0 0
 
-  pub picks-start : (ps : List ℕ) → length ps ≡ 512 → Passes ku kl ss → Picks ks xs cs ku kl ps 0 0
+  pub picks-start : (ps : List ℕ) → length ps ≡ 512 → Passable ku kl ss → Picks ks xs cs ku kl ps 0 0
   picks-start ps h p =
       record { cells = h; within = omega arith; way = way-start ku kl; ahead = passes-ahead ku kl ss p; rest = λ ws f. f }
 
@@ -83,7 +82,8 @@ module _ (ks xs cs : List ℕ) (ku kl : ℕ) (s : List ℕ) (given : Given ks xs
         let (y, h, a) = ahead-back ks xs cs ku kl i l r (k .ahead) in
         m (h .at) y (h .lands) (lands-kept (h .at) y (h .lands) a)
 
-    pub picks-step : (p x : ℕ) → length ks ≤ 512 → Least (stopOf ks xs cs ku kl i) s i r p x → Picks ks xs cs ku kl (set ps i p) (i + 1) x
+    pub picks-step : (p x : ℕ) → length ks ≤ 512 → Least (stopOf ks xs cs ku kl i) s i r p x →
+        Picks ks xs cs ku kl (set ps i p) (i + 1) x
     picks-step p x few m =
         let a : Ahead ku kl (drop (suc i) ss) x = kept .sound i x inside (m .lands .within) (m .lands .kept) in
         rw (add-one i)
@@ -92,7 +92,8 @@ module _ (ks xs cs : List ℕ) (ku kl : ℕ) (s : List ℕ) (given : Given ks xs
           within = omega arith;
           way = way-on ks xs cs ku kl i l r x (k .way) (record { at = p; lands = m .lands .lands });
           ahead = a;
-          rest = λ ws f. rw (take-suc-set ps i p (omega (arith, k .cells))) (rw (append-snoc (take i ps) p ws) (k .rest (p ∷ ws) (more ws f)));
+          rest = λ ws f. rw (take-suc-set ps i p (omega (arith, k .cells)))
+              (rw (append-snoc (take i ps) p ws) (k .rest (p ∷ ws) (more ws f)));
         })
       where
         more : (ws : List ℕ) → First ku kl (drop (suc i) ss) x ws → First ku kl (drop i ss) r (p ∷ ws)

@@ -1,23 +1,23 @@
 -- Ranks of a gap looked at one by one are left exactly where the next node leads on; gap by gap, from the last, so that all the rest can be passed.
 use mathlib.Core.Path.{_≡_, refl, sym, ap, _∙_}
 use mathlib.Core.Bool.{Bool, true, false}
-use mathlib.Core.List.{List, []}
+use mathlib.Core.List.{List}
 use Prim.Native.Nat.{ℕ, suc, _+_, _≤_, _<_}
 use native.Mathlib.Omega.{arith}
-use lib.ListN.{length, getD, take, drop, drop-of-length-le}
+use lib.ListN.{length, getD, drop, drop-of-length-le}
 use lib.Dec.{eqb}
 use borrow.Author.Tests.{eqb-true, eqb-false}
 use Rattle.orders.specs.declared.rank.Stop.{Stop}
 use Rattle.orders.specs.Plan.{Step, steps}
-use Rattle.orders.specs.Ranks.{fact, Way, Ahead}
+use Rattle.orders.specs.Ranks.{fact, Ahead}
 use Rattle.orders.specs.Sets.{ranks, marked, Set, Loses}
-use Rattle.orders.specs.Stops.{Sound}
-use Rattle.orders.specs.Passes.{Leads, Onward, Misses, Least, Given, Filled, Passes, Pruned, Kept}
+use Rattle.orders.specs.Stops.{stopOf}
+use Rattle.orders.specs.Passes.{Onward, Misses, Least, Given, Filled, Pruned}
 use Rattle.orders.proofs.Bits.{not-both}
 use Rattle.orders.proofs.Gains.{loses-none, loses-map, loses-one, loses-join}
 use Rattle.orders.proofs.Spreading.{last-or}
 use Rattle.orders.proofs.Ways.{ahead-none, steps-length}
-use Rattle.orders.proofs.Nodes.{stopOf, way-on, ahead-on, ahead-back, stop-ready, rank-below}
+use Rattle.orders.proofs.Nodes.{way-on, ahead-on, ahead-back, stop-ready, rank-below}
 
 -- a number from g on is g or above it
 at-or : {P : Type 0} (h g : ℕ) → g ≤ h → (h ≡ g → P) → (g < h → P) → P
@@ -34,20 +34,24 @@ module _ (s : List ℕ) (g h r : ℕ) (t : Stop) (eh : h ≡ suc g) where
 
   pub rank-goes : (p x : ℕ) → Least t s h r p x → Loses s g (λ x. x ≡ r → Onward t s (suc g) x) s
   rank-goes p x l =
-      let o : Onward t s h r = record { next = x; within = l .lands .within; leads = record { at = p; lands = l .lands .lands }; kept = l .lands .kept } in
+      let m = l .lands in
+      let o : Onward t s h r =
+      record { next = x; within = m .within; leads = record { at = p; lands = m .lands }; kept = m .kept } in
       let n : Onward t s (suc g) r = rw eh at o in
       loses-none s g (λ x. x ≡ r → Onward t s (suc g) x) (λ x e m. rw m n)
 
   pub rank-stuck : (u : List ℕ) → ((q : ℕ) → Misses t s h r q) → Set s g r false u → Loses s g (λ x. x ≡ r → Onward t s (suc g) x) u
   rank-stuck u m a =
-      loses-one s g r (Onward t s (suc g)) u (λ o. let n : Onward t s h r = rw eh o in m (n .leads .at) (n .next) (n .leads .lands) (n .kept)) a
+      loses-one s g r (Onward t s (suc g)) u (λ o. let n : Onward t s h r = rw eh o in m (n .leads .at) (n .next) (n .leads .lands)
+      (n .kept)) a
 
 -- the ranks of gap g below k are looked at
 module _ (s : List ℕ) (g : ℕ) (t : Stop) where
   pub ranks-start : Loses s g (λ x. x < 0 → Onward t s (suc g) x) s
   ranks-start = loses-none s g (λ x. x < 0 → Onward t s (suc g) x) (λ x e l. absurd (omega arith))
 
-  pub ranks-step : (k : ℕ) (u v : List ℕ) → Loses s g (λ x. x < k → Onward t s (suc g) x) u → Loses u g (λ x. x ≡ k → Onward t u (suc g) x) v →
+  pub ranks-step : (k : ℕ) (u v : List ℕ) → Loses s g (λ x. x < k → Onward t s (suc g) x) u →
+      Loses u g (λ x. x ≡ k → Onward t u (suc g) x) v →
       Loses s g (λ x. x < k + 1 → Onward t s (suc g) x) v
   ranks-step k u v a b =
       loses-map s g (λ x. (x < k → Onward t s (suc g) x) × (x ≡ k → Onward t u (suc g) x)) (λ x. x < k + 1 → Onward t s (suc g) x) v
@@ -55,11 +59,15 @@ module _ (s : List ℕ) (g : ℕ) (t : Stop) where
       (λ x l e q. ((λ h. q (omega arith)), (λ m. fore x (q (omega arith)))))
       (loses-join s g (λ x. x < k → Onward t s (suc g) x) (λ x. x ≡ k → Onward t u (suc g) x) u v a b)
     where
+      same : (x : ℕ) → x < ranks → marked u (suc g) x ≡ marked s (suc g) x
+      same x l = a .others (suc g) x l (λ e. omega arith)
+
       back : (x : ℕ) → Onward t u (suc g) x → Onward t s (suc g) x
-      back x o = record { next = o .next; within = o .within; leads = o .leads; kept = sym (a .others (suc g) (o .next) (o .within) (λ e. omega arith)) ∙ o .kept }
+      back x o =
+          record { next = o .next; within = o .within; leads = o .leads; kept = sym (same (o .next) (o .within)) ∙ o .kept }
 
       fore : (x : ℕ) → Onward t s (suc g) x → Onward t u (suc g) x
-      fore x o = record { next = o .next; within = o .within; leads = o .leads; kept = a .others (suc g) (o .next) (o .within) (λ e. omega arith) ∙ o .kept }
+      fore x o = record { next = o .next; within = o .within; leads = o .leads; kept = same (o .next) (o .within) ∙ o .kept }
 
   pub ranks-end : (k : ℕ) (u : List ℕ) → ((x : ℕ) → x < ranks → marked s g x ≡ true → x < k) →
       Loses s g (λ x. x < k → Onward t s (suc g) x) u → Loses s g (Onward t s (suc g)) u
@@ -73,9 +81,11 @@ pub record Prunes (ks xs cs : List ℕ) (ku kl : ℕ) (s₀ : List ℕ) (i : ℕ
   pub early : (g x : ℕ) → suc g < i → x < ranks → marked s g x ≡ marked s₀ g x
   pub was : (g x : ℕ) → i ≤ suc g → g < length ks → x < ranks → marked s g x ≡ true → marked s₀ g x ≡ true
   pub sound : (g x : ℕ) → i ≤ suc g → g < length ks → x < ranks → marked s g x ≡ true → Ahead ku kl (drop (suc g) (steps ks xs cs)) x
-  pub full : (g x : ℕ) → i ≤ suc g → g < length ks → x < ranks → marked s₀ g x ≡ true → Ahead ku kl (drop (suc g) (steps ks xs cs)) x → marked s g x ≡ true
+  pub full : (g x : ℕ) → i ≤ suc g → g < length ks → x < ranks → marked s₀ g x ≡ true → Ahead ku kl (drop (suc g) (steps ks xs cs)) x →
+      marked s g x ≡ true
 
-module _ (ks xs cs : List ℕ) (ku kl : ℕ) (s₀ : List ℕ) (given : Given ks xs cs s₀ ku kl) (fills : Filled ku kl (steps ks xs cs) (length ks) s₀) where
+module _ (ks xs cs : List ℕ) (ku kl : ℕ) (s₀ : List ℕ) (given : Given ks xs cs s₀ ku kl)
+    (fills : Filled ku kl (steps ks xs cs) (length ks) s₀) where
   abbrev ss : List Step
   ss = steps ks xs cs
 
@@ -91,20 +101,25 @@ module _ (ks xs cs : List ℕ) (ku kl : ℕ) (s₀ : List ℕ) (given : Given ks
       }
 
   -- the rank of a mark is one of the nets that the next node finds open
-  below-next : (i g : ℕ) (s : List ℕ) → i ≡ suc (suc g) → Prunes ks xs cs ku kl s₀ i s → (x : ℕ) → x < ranks → marked s g x ≡ true → x < fact (getD cs (suc g) 0)
+  below-next : (i g : ℕ) (s : List ℕ) → i ≡ suc (suc g) → Prunes ks xs cs ku kl s₀ i s → (x : ℕ) → x < ranks → marked s g x ≡ true →
+      x < fact (getD cs (suc g) 0)
   below-next i g s e f x h m =
       let w = fills .sound g x (omega (arith, f .node)) h (sym (f .early g x (omega arith) h) ∙ m) in
       stop-ready ks xs cs ku kl (suc g) (omega (arith, f .node)) s₀ x given w .1
 
-  prunes-next : (i g : ℕ) (s t : List ℕ) → i ≡ suc (suc g) → Prunes ks xs cs ku kl s₀ i s → Loses s g (Onward (stopOf ks xs cs ku kl (suc g)) s (suc g)) t → Prunes ks xs cs ku kl s₀ (suc g) t
+  prunes-next : (i g : ℕ) (s t : List ℕ) → i ≡ suc (suc g) → Prunes ks xs cs ku kl s₀ i s →
+      Loses s g (Onward (stopOf ks xs cs ku kl (suc g)) s (suc g)) t → Prunes ks xs cs ku kl s₀ (suc g) t
   prunes-next i g s t e f a =
       record {
         long = a .long ∙ f .long;
         node = omega (arith, f .node);
         early = λ h x l m. a .others h x m (λ q. omega arith) ∙ f .early h x (omega arith) m;
-        was = λ h x l m n k. by h l (λ q. rw q (was x n (rw q at k))) (λ j. f .was h x (omega arith) m n (sym (a .others h x n (λ q. omega arith)) ∙ k));
-        sound = λ h x l m n k. by h l (λ q. rw q (sound x n (rw q at k))) (λ j. f .sound h x (omega arith) m n (sym (a .others h x n (λ q. omega arith)) ∙ k));
-        full = λ h x l m n k b. by h l (λ q. rw q (full x n (rw q at k) (rw q at b))) (λ j. a .others h x n (λ q. omega arith) ∙ f .full h x (omega arith) m n k b);
+        was = λ h x l m n k. by h l (λ q. rw q (was x n (rw q at k)))
+            (λ j. f .was h x (omega arith) m n (sym (a .others h x n (λ q. omega arith)) ∙ k));
+        sound = λ h x l m n k. by h l (λ q. rw q (sound x n (rw q at k)))
+            (λ j. f .sound h x (omega arith) m n (sym (a .others h x n (λ q. omega arith)) ∙ k));
+        full = λ h x l m n k b. by h l (λ q. rw q (full x n (rw q at k) (rw q at b)))
+            (λ j. a .others h x n (λ q. omega arith) ∙ f .full h x (omega arith) m n k b);
       }
     where
       next : suc g < length ks
@@ -122,7 +137,8 @@ module _ (ks xs cs : List ℕ) (ku kl : ℕ) (s₀ : List ℕ) (given : Given ks
       sound : (x : ℕ) → x < ranks → marked t g x ≡ true → Ahead ku kl (drop (suc g) ss) x
       sound x n k =
           let o = a .sound x n k in
-          ahead-on ks xs cs ku kl (suc g) next x (o .next) (o .leads) (f .sound (suc g) (o .next) (omega arith) next (o .within) (o .kept))
+          ahead-on ks xs cs ku kl (suc g) next x (o .next) (o .leads)
+          (f .sound (suc g) (o .next) (omega arith) next (o .within) (o .kept))
 
       full : (x : ℕ) → x < ranks → marked s₀ g x ≡ true → Ahead ku kl (drop (suc g) ss) x → marked t g x ≡ true
       full x n k b =
@@ -149,9 +165,3 @@ module _ (ks xs cs : List ℕ) (ku kl : ℕ) (s₀ : List ℕ) (given : Given ks
         sound = λ g x h. f .sound g x (omega arith) (omega arith);
         full = λ g x h. f .full g x (omega arith) (omega arith);
       }
-
--- pruned after the pass forward: the marks are the ranks of ways that lead on through all the steps
-pub pruned-kept : (ku kl : ℕ) (ss : List Step) (s t : List ℕ) → ((g x : ℕ) → Way ku kl (take (suc g) ss) x → x < ranks) →
-    Filled ku kl ss (length ss) s → Pruned ku kl ss s t → Kept ku kl ss t
-pruned-kept ku kl ss s t b f p =
-    record { sound = p .sound; full = λ g x l w a. p .full g x l (b g x w) (f .full g x l w) a }

@@ -1,17 +1,18 @@
--- An order of a rank holds the open nets, each once; its nets stand where atOf says; lessOf and put lead to the orders without a net and with a new one.
+-- The order of a rank holds the open nets, each once, where atOf says; ranks of an order with a new net and without one are known.
 use mathlib.Core.Path.{_≡_, refl, sym, ap, ap₂, _∙_}
 use mathlib.Core.Bool.{Bool, true, false}
 use mathlib.Core.List.{List, [], _∷_}
 use Prim.Native.Nat.{ℕ, zero, suc, _+_, _-_, _*_, _/_, _%_, _≤_, _<_}
-use native.Mathlib.Nat.{mod-lt, div-lt-iff-lt-mul, mul-add-div-right, mul-add-mod-self-right, div-eq-of-lt, mod-eq-of-lt, suc-mul, add-zero, mul-le-mul-right, mul-pos}
+use native.Mathlib.Nat.{mod-lt, div-lt-iff-lt-mul, mul-add-div-right, mul-add-mod-self-right, div-eq-of-lt, mod-eq-of-lt}
+use native.Mathlib.Nat.{suc-mul, add-zero, mul-le-mul-right, mul-pos}
 use native.Mathlib.Omega.{arith}
 use lib.ListN.{length, getD}
 use lib.Dec.{leb, eqb}
-use borrow.Author.Tests.{leb-true, leb-false, le-leb, lt-leb, eq-eqb, ne-eqb, eqb-true, eqb-false}
+use borrow.Author.Tests.{leb-true, leb-false, le-leb, lt-leb, eq-eqb, ne-eqb}
 use Rattle.rules.specs.Basic.{pick, put, cut}
 use Rattle.rules.specs.Row.{before}
 use Rattle.rules.proofs.Lists.{length-put, length-cut, cut-put}
-use Rattle.rules.proofs.Open.{one, one-same, one-other, times, times-put}
+use Rattle.rules.proofs.Open.{one, one-same, times, times-put}
 use Rattle.orders.specs.Ranks.{fact, orderOf, under, spared, atOf, lessOf}
 
 pub fact-pos : (n : ℕ) → 0 < fact n
@@ -97,7 +98,8 @@ less-lt (suc a) (suc (suc b)) r ha hr =
     less-lt a (suc b) (r % fact (suc b)) (omega arith) (mod-lt r (fact-pos (suc b))) in
     let hq : r / fact (suc b) < suc (suc b) = digit-lt (suc b) r hr in
     let m : lessOf a (suc b) (r % fact (suc b)) < fact b = rw d at l in
-    rw (e, d) (rank-lt (spared (r / fact (suc b)) i) b (lessOf a (suc b) (r % fact (suc b))) (spared-le (r / fact (suc b)) i b (omega arith) (omega arith)) m)
+    rw (e, d) (rank-lt (spared (r / fact (suc b)) i) b (lessOf a (suc b) (r % fact (suc b)))
+    (spared-le (r / fact (suc b)) i b (omega arith) (omega arith)) m)
 
 pub order-length : (ys : List ℕ) (r : ℕ) → length (orderOf ys r) ≡ length ys
 unfolding orderOf
@@ -220,7 +222,8 @@ pub order-less : (ys : List ℕ) (a r : ℕ) → a < length ys → r < fact (len
 unfolding orderOf atOf lessOf cut
 order-less [] a r ha hr = absurd (omega arith)
 order-less (y ∷ ys) zero r ha hr =
-    sym (cut-put (r / fact (length ys)) y (orderOf ys (r % fact (length ys))) (omega (arith, order-length ys (r % fact (length ys)), digit-lt (length ys) r hr)))
+    sym (cut-put (r / fact (length ys)) y (orderOf ys (r % fact (length ys)))
+    (omega (arith, order-length ys (r % fact (length ys)), digit-lt (length ys) r hr)))
 order-less (y ∷ ys) (suc a) r ha hr =
     let f : ℕ = fact (length ys) in
     let q : ℕ = r / f in

@@ -1,22 +1,21 @@
 -- Ways go on hop by hop, at both ends, and lead to ranks of the nets that are then open.
-use mathlib.Core.Path.{_≡_, refl, sym, ap, _∙_}
-use mathlib.Core.Bool.{Bool, true, false}
+use mathlib.Core.Path.{_≡_, refl, ap, _∙_}
 use mathlib.Core.List.{List, [], _∷_, _++_}
 use mathlib.Core.Option.{Option, none, some}
-use Prim.Native.Nat.{ℕ, zero, suc, _+_, _-_, _*_, _≤_, _<_}
+use Prim.Native.Nat.{ℕ, zero, suc, _+_, _≤_, _<_}
 use native.Mathlib.Omega.{arith}
 use lib.ListN.{length, getD, take, drop}
 use lib.Seq.{take-suc, drop-cons}
-use Rattle.rules.specs.Basic.{andThen, tabulate}
+use Rattle.rules.specs.Basic.{andThen}
 use Rattle.rules.proofs.Pins.{length-tabulate, getD-tabulate}
 use Rattle.rules.specs.Sheet.{kindIn}
 use Rattle.rules.specs.Judgement.{left}
 use Rattle.orders.specs.Plan.{Step, step, Steps, nil, full, begins, meet, steps}
-use Rattle.orders.specs.Ranks.{fact, hopOf, hops, Way, Ahead}
+use Rattle.orders.specs.Ranks.{fact, hopOf, hops, openAfter, Way, Ahead}
 use Rattle.orders.specs.Sets.{ranks}
-use Rattle.orders.specs.Passes.{Passes}
+use Rattle.orders.specs.Passes.{Passable}
 use Rattle.orders.proofs.Ranks.{fact-pos, fact-six}
-use Rattle.orders.proofs.Hops.{Made, hop-made, none-some, same-some}
+use Rattle.orders.proofs.Hops.{hop-made}
 
 -- one hop: from rank r through the step s to rank x
 pub record Hopped (ku kl : ℕ) (s : Step) (r x : ℕ) : Type 0 where
@@ -82,7 +81,8 @@ module _ (ku kl : ℕ) where
   pub way-none : (x : ℕ) → Way ku kl [] x → 0 ≡ x
   way-none x w = hops-nil 0 x (w .ps) (w .runs) .1
 
-  pub way-more : (ss : List Step) (i : ℕ) (d : Step) (r x : ℕ) → i < length ss → Way ku kl (take i ss) r → Hopped ku kl (getD ss i d) r x →
+  pub way-more : (ss : List Step) (i : ℕ) (d : Step) (r x : ℕ) → i < length ss → Way ku kl (take i ss) r →
+      Hopped ku kl (getD ss i d) r x →
       Way ku kl (take (suc i) ss) x
   way-more ss i d r x l w h =
       rw (take-suc ss i d l)
@@ -108,7 +108,8 @@ module _ (ku kl : ℕ) where
       (y, record { at = p; lands = h }, record { ps = qs; end = a .end; runs = k })
 
   -- the first steps of a run are passed too
-  hops-take : (i : ℕ) (ss : List Step) (r x : ℕ) (ps : List ℕ) → hops ku kl ss r ps ≡ some x → (qs : List ℕ) × (y : ℕ) × (hops ku kl (take i ss) r qs ≡ some y)
+  hops-take : (i : ℕ) (ss : List Step) (r x : ℕ) (ps : List ℕ) → hops ku kl ss r ps ≡ some x →
+      (qs : List ℕ) × (y : ℕ) × (hops ku kl (take i ss) r qs ≡ some y)
   hops-take zero ss r x ps e = ([], r, hops-start r)
   hops-take (suc i) [] r x ps e = ([], r, hops-start r)
   hops-take (suc i) (s ∷ ss) r x ps e =
@@ -116,12 +117,12 @@ module _ (ku kl : ℕ) where
       let (us, z, j) = hops-take i ss y x qs k in
       (p ∷ us, z, first-hops s (take i ss) r z y p us h j)
 
-  pub passes-take : (i : ℕ) (ss : List Step) → Passes ku kl ss → Passes ku kl (take i ss)
+  pub passes-take : (i : ℕ) (ss : List Step) → Passable ku kl ss → Passable ku kl (take i ss)
   passes-take i ss w =
       let (qs, y, e) = hops-take i ss 0 (w .end) (w .way .ps) (w .way .runs) in
       record { end = y; way = record { ps = qs; runs = e } }
 
-  pub passes-ahead : (ss : List Step) → Passes ku kl ss → Ahead ku kl ss 0
+  pub passes-ahead : (ss : List Step) → Passable ku kl ss → Ahead ku kl ss 0
   passes-ahead ss w = record { ps = w .way .ps; end = w .end; runs = w .way .runs }
 
 -- a rank of b nets, at a step that finds them and touches one of them
@@ -137,31 +138,34 @@ pub record Comes (c : ℕ) (ss : List Step) (r : ℕ) : Type 0 where
 
 module _ (ku kl : ℕ) (hu : ku ≤ 3) (hl : kl ≤ 3) where
   -- past one step
-  past : {b : ℕ} {s : Step} {ss : List Step} (r x p : ℕ) → Steps b (s ∷ ss) → r < fact b → hopOf ku kl s r p ≡ some x →
-      (c : ℕ) × Comes c ss x
+  past : {b k a c : ℕ} {ss : List Step} (r x p : ℕ) → Steps b (step k a c ∷ ss) → r < fact b → hopOf ku kl (step k a c) r p ≡ some x →
+      Comes (left (kindIn k) b) ss x
   unfolding left kindIn
   past r x p (full {a}) l h =
       let m : 7 ≤ ku + kl = hop-made ku kl 0 a 6 r p x h .left-open in
       absurd (omega arith)
-  past r x p (begins {a} {b} q u) l h = (suc b, record { plan = u; rank = hop-made ku kl 0 a b r p x h .lands (λ z. absurd (omega arith)) l })
-  past r x p (meet {k} {a} {b} z q j f u) l h =
-      (left (kindIn k) b, record { plan = u; rank = hop-made ku kl k a b r p x h .lands (λ v. j) l })
+  past r x p (begins {a} {b} q u) l h =
+      record { plan = u; rank = hop-made ku kl 0 a b r p x h .lands (λ z. absurd (omega arith)) l }
+  past r x p (meet {k} {a} {b} z q j f u) l h = record { plan = u; rank = hop-made ku kl k a b r p x h .lands (λ v. j) l }
 
   -- a run through the first steps comes to the others with a rank of the nets that are then open
   pub steps-rest : (i b : ℕ) (ss : List Step) (r x : ℕ) (ps : List ℕ) → Steps b ss → r < fact b →
-      hops ku kl (take i ss) r ps ≡ some x → (c : ℕ) × Comes c (drop i ss) x
+      hops ku kl (take i ss) r ps ≡ some x → Comes (openAfter b (take i ss)) (drop i ss) x
+  unfolding openAfter
   steps-rest zero b ss r x ps t l e =
       let m : r ≡ x = hops-nil ku kl r x ps e .1 in
-      (b, record { plan = t; rank = rw (← m) l })
+      record { plan = t; rank = rw (← m) l }
   steps-rest (suc i) b [] r x ps t l e =
       let m : r ≡ x = hops-nil ku kl r x ps e .1 in
-      (b, record { plan = t; rank = rw (← m) l })
-  steps-rest (suc i) b (s ∷ ss) r x ps t l e =
-      let (p, qs, y, w, h, k) = hops-first ku kl s (take i ss) r x ps e in
-      let (c, n) = past r y p t l h in
-      steps-rest i c ss y x qs (n .plan) (n .rank) k
+      record { plan = t; rank = rw (← m) l }
+  steps-rest (suc i) b (step k a c ∷ ss) r x ps t l e =
+      let (p, qs, y, w, h, j) = hops-first ku kl (step k a c) (take i ss) r x ps e in
+      let n = past r y p t l h in
+      steps-rest i (left (kindIn k) b) ss y x qs (n .plan) (n .rank) j
 
-  pub way-comes : (i : ℕ) (ss : List Step) (x : ℕ) → Steps 0 ss → Way ku kl (take i ss) x → (c : ℕ) × Comes c (drop i ss) x
+  -- a way's rank is one of the nets that are then open
+  pub way-comes : (i : ℕ) (ss : List Step) (x : ℕ) → Steps 0 ss → Way ku kl (take i ss) x →
+      Comes (openAfter 0 (take i ss)) (drop i ss) x
   way-comes i ss x t w = steps-rest i 0 ss 0 x (w .ps) t (fact-pos 0) (w .runs)
 
   steps-few : {c : ℕ} {ss : List Step} → Steps c ss → c ≤ 6
@@ -173,8 +177,8 @@ module _ (ku kl : ℕ) (hu : ku ≤ 3) (hl : kl ≤ 3) where
   -- every rank of a way is one of a gap's
   pub way-below : (i : ℕ) (ss : List Step) (x : ℕ) → Steps 0 ss → Way ku kl (take i ss) x → x < ranks
   way-below i ss x t w =
-      let (c, n) = way-comes i ss x t w in
-      omega (arith, n .rank, fact-six c (steps-few (n .plan)))
+      let n = way-comes i ss x t w in
+      omega (arith, n .rank, fact-six (openAfter 0 (take i ss)) (steps-few (n .plan)))
 
   ready : {c : ℕ} {ss : List Step} (k a b x : ℕ) (ts : List Step) → ss ≡ step k a b ∷ ts → Steps c ss → x < fact c → Ready k a b x
   ready k a b x ts e (nil h) l = let z : _≡_ {A = ℕ} 0 1 = cc in absurd (omega arith)
@@ -191,11 +195,11 @@ module _ (ku kl : ℕ) (hu : ku ≤ 3) (hl : kl ≤ 3) where
       let m : c ≡ a = cc in
       record { few = omega arith; touched = λ v. omega arith; rank = rw (← n) l }
 
-  -- a way's rank is one of the nets that the next step finds open
+  -- it is one of the nets that the next step finds open, and touches one of
   pub way-ready : (i : ℕ) (ss : List Step) (d : Step) (k a b x : ℕ) → Steps 0 ss → i < length ss → getD ss i d ≡ step k a b →
       Way ku kl (take i ss) x → Ready k a b x
   way-ready i ss d k a b x t l e w =
-      let (c, n) = way-comes i ss x t w in
+      let n = way-comes i ss x t w in
       ready k a b x (drop (suc i) ss) (drop-cons ss i d l ∙ ap (λ s. s ∷ drop (suc i) ss) e) (n .plan) (n .rank)
 
 -- the steps that three lists hold, one by one

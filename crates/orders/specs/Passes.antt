@@ -3,7 +3,7 @@ use mathlib.Core.Path.{_≡_}
 use mathlib.Core.Bool.{true}
 use mathlib.Core.List.{List}
 use mathlib.Core.Logic.{_⊎_}
-use mathlib.Core.Option.{Option, some}
+use mathlib.Core.Option.{some}
 use Prim.Native.Nat.{ℕ, suc, _*_, _<_, _≤_}
 use lib.ListN.{length, take, drop}
 use Rattle.rules.specs.Street.{Earlier}
@@ -14,13 +14,9 @@ use Rattle.orders.specs.declared.pass.Choice.{Choice}
 use Rattle.orders.specs.declared.pass.Choice.the-variants.{Go, Stuck}
 use Rattle.orders.specs.declared.pass.Positions.{Positions}
 use Rattle.orders.specs.Plan.{Step, Steps, steps}
-use Rattle.orders.specs.Ranks.{fact, hops, Way, Ahead}
+use Rattle.orders.specs.Ranks.{capacity, fact, hops, Way, Ahead}
 use Rattle.orders.specs.Sets.{ranks, stretch, marked, source}
 use Rattle.orders.specs.Stops.{hopAt}
-
--- no node has more positions, since two streets have at most six tracks
-abbrev pub positions : ℕ
-positions = 6
 
 -- the stop leads from rank r to rank x
 pub record Leads (t : Stop) (r x : ℕ) : Type 0 where
@@ -57,7 +53,7 @@ Landed t s g r p Nowhere = Misses t s g r p
 
 -- p is the least position that leads from rank r to a marked rank of gap g
 pub record Least (t : Stop) (s : List ℕ) (g r p x : ℕ) : Type 0 where
-  pub low : p < positions
+  pub low : p < capacity
   pub lands : Lands t s g r p x
   pub first : (q : ℕ) → q < p → Misses t s g r q
 
@@ -80,7 +76,7 @@ pub record Filled (ku kl : ℕ) (ss : List Step) (n : ℕ) (s : List ℕ) : Type
   pub full : (g x : ℕ) → g < n → Way ku kl (take (suc g) ss) x → marked s g x ≡ true
 
 -- some way leads through the steps
-pub record Passes (ku kl : ℕ) (ss : List Step) : Type 0 where
+pub record Passable (ku kl : ℕ) (ss : List Step) : Type 0 where
   pub end : ℕ
   pub way : Way ku kl ss end
 
@@ -89,8 +85,8 @@ pub record Forward (ku kl : ℕ) (ss : List Step) (s t : List ℕ) (n : ℕ) : T
   pub long : length t ≡ length s
   pub within : n ≤ length ss
   pub filled : Filled ku kl ss n t
-  pub passes : Passes ku kl (take n ss)
-  pub stuck : n < length ss → Passes ku kl (take (suc n) ss) → ⊥
+  pub passes : Passable ku kl (take n ss)
+  pub stuck : n < length ss → Passable ku kl (take (suc n) ss) → ⊥
 
 -- of the marks of s exactly those are left in t from which the steps after their gap can be passed
 pub record Pruned (ku kl : ℕ) (ss : List Step) (s t : List ℕ) : Type 0 where

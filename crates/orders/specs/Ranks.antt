@@ -2,7 +2,7 @@
 --
 -- The open nets are listed youngest first. Positions p count from 0 here: how many nets stand above.
 use mathlib.Core.Path.{_≡_}
-use mathlib.Core.Bool.{Bool, _&&_}
+use mathlib.Core.Bool.{_&&_}
 use mathlib.Core.List.{List, [], _∷_}
 use mathlib.Core.Option.{Option, none, some}
 use Prim.Native.Nat.{ℕ, zero, suc, _+_, _-_, _*_, _/_, _%_}
@@ -10,7 +10,13 @@ use lib.ListN.{length}
 use lib.Dec.{leb, eqb}
 use Rattle.rules.specs.Basic.{pick, put, keep, andThen}
 use Rattle.rules.specs.Street.{fits}
+use Rattle.rules.specs.Sheet.{kindIn}
+use Rattle.rules.specs.Judgement.{left}
 use Rattle.orders.specs.Plan.{Step, step}
+
+-- the most nets that can be open: two streets have at most six tracks. No node has more positions.
+abbrev pub capacity : ℕ
+capacity = 6
 
 -- how many orders n nets have
 unfoldable pub fact : ℕ → ℕ
@@ -55,6 +61,11 @@ hops ku kl [] r [] = some r
 hops ku kl [] r (p ∷ ps) = none
 hops ku kl (s ∷ ss) r [] = none
 hops ku kl (s ∷ ss) r (p ∷ ps) = andThen (hopOf ku kl s r p) (λ x. hops ku kl ss x ps)
+
+-- the nets open after steps, where b were before them
+unfoldable pub openAfter : ℕ → List Step → ℕ
+openAfter b [] = b
+openAfter b (step k a c ∷ ss) = openAfter (left (kindIn k) b) ss
 
 -- the steps lead from rank 0, the order of no nets, to rank x
 pub record Way (ku kl : ℕ) (ss : List Step) (x : ℕ) : Type 0 where

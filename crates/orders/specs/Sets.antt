@@ -2,7 +2,7 @@
 use mathlib.Core.Path.{_≡_}
 use mathlib.Core.Bool.{Bool, true, false}
 use mathlib.Core.List.{List}
-use mathlib.Core.Logic.{_⊎_, _↔_}
+use mathlib.Core.Logic.{_⊎_}
 use Prim.Native.Nat.{ℕ, zero, suc, _+_, _*_, _/_, _%_, _^_, _<_, _≤_}
 use lib.ListN.{length, getD}
 use lib.Dec.{eqb}
@@ -48,6 +48,13 @@ pub record Gains (s : List ℕ) (g : ℕ) (P : ℕ → Type 0) (t : List ℕ) : 
   pub others : (h x : ℕ) → x < ranks → (h ≡ g → ⊥) → marked t h x ≡ marked s h x
   pub sound : (x : ℕ) → x < ranks → marked t g x ≡ true → (marked s g x ≡ true) ⊎ P x
   pub kept : (x : ℕ) → x < ranks → marked s g x ≡ true → marked t g x ≡ true
+  pub full : (x : ℕ) → x < ranks → P x → marked t g x ≡ true
+
+-- t is s with exactly the ranks of P marked in gap g
+pub record Exactly (s : List ℕ) (g : ℕ) (P : ℕ → Type 0) (t : List ℕ) : Type 0 where
+  pub long : length t ≡ length s
+  pub others : (h x : ℕ) → x < ranks → (h ≡ g → ⊥) → marked t h x ≡ marked s h x
+  pub sound : (x : ℕ) → x < ranks → marked t g x ≡ true → P x
   pub full : (x : ℕ) → x < ranks → P x → marked t g x ≡ true
 
 -- t is s with only the ranks of P left in gap g

@@ -1,4 +1,5 @@
 // The router's three passes over the sets of ranks: forward, back to prune, and forward to pick.
+use crate::rank::CAPACITY;
 use crate::rank::Landing;
 use crate::rank::Stop;
 use crate::rank::factorial;
@@ -14,8 +15,8 @@ ghost use lib.ListN.{length};
 ghost use Rattle.orders.specs.Plan.{steps};
 ghost use Rattle.orders.specs.Ranks.{fact};
 ghost use Rattle.orders.specs.Sets.{ranks, stretch, marked, Clear, Loses};
-ghost use Rattle.orders.specs.Stops.{Sound};
-ghost use Rattle.orders.specs.Passes.{Onward, Landed, Chosen, Given, Forward, Filled, Passes, Pruned, Kept, Picked};
+ghost use Rattle.orders.specs.Stops.{Sound, stopOf};
+ghost use Rattle.orders.specs.Passes.{Onward, Landed, Chosen, Given, Forward, Filled, Passable, Pruned, Kept, Picked};
 
 // The position that is taken at a node, from 0, and the rank after it.
 pub enum Choice {
@@ -38,13 +39,7 @@ pub fn forward(work: &mut [u8], kinds: &[u8], ages: &[u8], counts: &[u8], ku: u8
     let n = kinds.len();
     let mut i = 0;
     while i < n {
-        let stop = Stop {
-            kind: kinds[i],
-            age: ages[i],
-            count: counts[i],
-            ku,
-            kl,
-        };
+        let stop = stop_at(kinds, ages, counts, ku, kl, i);
         spread(work, i, stop);
         if bare(work, i) {
             return i;
@@ -58,19 +53,13 @@ pub fn forward(work: &mut [u8], kinds: &[u8], ages: &[u8], counts: &[u8], ku: u8
 pub fn prune(work: &mut [u8], kinds: &[u8], ages: &[u8], counts: &[u8], ku: u8, kl: u8)
     requires { ⌜ Given (now kinds) (now ages) (now counts) (now work) ku kl ⌝ }
     requires { ⌜ Filled ku kl (steps (now kinds) (now ages) (now counts)) (length (now kinds)) (now work) ⌝ }
-    requires { ⌜ Passes ku kl (steps (now kinds) (now ages) (now counts)) ⌝ }
+    requires { ⌜ Passable ku kl (steps (now kinds) (now ages) (now counts)) ⌝ }
     ensures { λ _. ⌜ Pruned ku kl (steps (now (kinds .entry)) (now (ages .entry)) (now (counts .entry))) (now (work .entry)) (now (work .exit)) ⌝ }
 {
     let mut i = kinds.len();
     while 1 < i {
         let at = i - 1;
-        let stop = Stop {
-            kind: kinds[at],
-            age: ages[at],
-            count: counts[at],
-            ku,
-            kl,
-        };
+        let stop = stop_at(kinds, ages, counts, ku, kl, at);
         prune_set(work, at - 1, stop);
         i = at;
     }
@@ -80,7 +69,7 @@ pub fn prune(work: &mut [u8], kinds: &[u8], ages: &[u8], counts: &[u8], ku: u8, 
 pub fn pick(work: &[u8], kinds: &[u8], ages: &[u8], counts: &[u8], ku: u8, kl: u8) -> Positions
     requires { ⌜ Given (now kinds) (now ages) (now counts) (now work) ku kl ⌝ }
     requires { ⌜ Kept ku kl (steps (now kinds) (now ages) (now counts)) (now work) ⌝ }
-    requires { ⌜ Passes ku kl (steps (now kinds) (now ages) (now counts)) ⌝ }
+    requires { ⌜ Passable ku kl (steps (now kinds) (now ages) (now counts)) ⌝ }
     requires { ⌜ length (now kinds) ≤ 512 ⌝ }
     ensures { λ a. ⌜ Picked ku kl (steps (now (kinds .entry)) (now (ages .entry)) (now (counts .entry))) a ⌝ }
 {
@@ -100,7 +89,7 @@ fn pick_into(
 ) -> Positions
     requires { ⌜ Given (now kinds) (now ages) (now counts) (now work) ku kl ⌝ }
     requires { ⌜ Kept ku kl (steps (now kinds) (now ages) (now counts)) (now work) ⌝ }
-    requires { ⌜ Passes ku kl (steps (now kinds) (now ages) (now counts)) ⌝ }
+    requires { ⌜ Passable ku kl (steps (now kinds) (now ages) (now counts)) ⌝ }
     requires { ⌜ (length (now kinds) ≤ 512) × (length (old .ps) ≡ 512) ⌝ }
     ensures { λ a. ⌜ Picked ku kl (steps (now (kinds .entry)) (now (ages .entry)) (now (counts .entry))) a ⌝ }
 {
@@ -109,13 +98,7 @@ fn pick_into(
     let mut r: usize = 0;
     let mut i = 0;
     while i < n {
-        let stop = Stop {
-            kind: kinds[i],
-            age: ages[i],
-            count: counts[i],
-            ku,
-            kl,
-        };
+        let stop = stop_at(kinds, ages, counts, ku, kl, i);
         let Choice::Go(p, x) = choose(work, i, stop, r) else {
             return Positions { ps };
         };
@@ -124,6 +107,20 @@ fn pick_into(
         i += 1;
     }
     Positions { ps }
+}
+
+// Node i.
+fn stop_at(kinds: &[u8], ages: &[u8], counts: &[u8], ku: u8, kl: u8, i: usize) -> Stop
+    requires { ⌜ (i < length (now kinds)) × (length (now ages) ≡ length (now kinds)) × (length (now counts) ≡ length (now kinds)) ⌝ }
+    ensures { λ t. ⌜ t ≡ stopOf (now (kinds .entry)) (now (ages .entry)) (now (counts .entry)) ku kl i ⌝ }
+{
+    Stop {
+        kind: kinds[i],
+        age: ages[i],
+        count: counts[i],
+        ku,
+        kl,
+    }
 }
 
 // Leaves in gap g only the ranks from which the node after it leads to a marked rank.
@@ -163,7 +160,7 @@ fn choose(work: &[u8], g: usize, stop: Stop, r: usize) -> Choice
     ensures { λ c. ⌜ Chosen stop (now (work .entry)) g r c ⌝ }
 {
     let mut p: usize = 0;
-    while p < 6 {
+    while p < CAPACITY {
         if let Landing::To(x) = land(work, g, stop, r, p) {
             return Choice::Go(p, x);
         }

@@ -2,8 +2,12 @@
 ghost use mathlib.Core.Path.{_≡_};
 ghost use Prim.Native.Nat.{suc, _≤_, _<_};
 ghost use Rattle.rules.specs.Street.{fits};
-ghost use Rattle.orders.specs.Ranks.{fact};
+ghost use Rattle.orders.specs.Ranks.{capacity, fact};
+ghost use Rattle.orders.specs.Sets.{ranks};
 ghost use Rattle.orders.specs.Stops.{Located, Beside, Factorial, Sound, hopAt, told};
+
+// The most nets that can be open: the tracks of two streets of three. No node has more positions.
+pub const CAPACITY: usize = 6;
 
 // A node as the passes see it, with the tracks of the streets: its kind field, the age of its net, how many nets are open before it.
 pub struct Stop {
@@ -107,7 +111,7 @@ fn fit(ku: u8, kl: u8, above: usize, b: usize) -> bool
 
 // Where the net of age a stands in the order of rank r of b nets.
 fn locate(a: usize, b: usize, r: usize) -> Place
-    requires { ⌜ (a < b) × (b ≤ 6) × (r < fact b) ⌝ }
+    requires { ⌜ (a < b) × (b ≤ capacity) × (r < fact b) ⌝ }
     ensures { λ p. ⌜ Located a b r p ⌝ }
 {
     let unit = factorial(b - 1);
@@ -124,8 +128,8 @@ fn locate(a: usize, b: usize, r: usize) -> Place
 
 // A net among b older ones and the youngest, which has `first` above it, where `place` is the net's among the older.
 fn beside(first: usize, b: usize, place: Place) -> Place
-    requires { ⌜ (0 < b) × (b ≤ 6) × (first ≤ 6) ⌝ }
-    requires { ⌜ (place .at < 6) × (place .rest ≤ 720) ⌝ }
+    requires { ⌜ (0 < b) × (b ≤ capacity) × (first ≤ capacity) ⌝ }
+    requires { ⌜ (place .at < capacity) × (place .rest ≤ ranks) ⌝ }
     ensures { λ p. ⌜ Beside first b place p ⌝ }
 {
     let at = place.at;
@@ -145,7 +149,7 @@ fn beside(first: usize, b: usize, place: Place) -> Place
 
 // How many orders n nets have.
 pub fn factorial(n: usize) -> usize
-    requires { ⌜ n ≤ 6 ⌝ }
+    requires { ⌜ n ≤ capacity ⌝ }
     ensures { λ f. ⌜ Factorial n f ⌝ }
 {
     match n {

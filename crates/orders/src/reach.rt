@@ -1,4 +1,5 @@
 // One node forward: marks in the gap after it every rank that it leads to.
+use crate::rank::CAPACITY;
 use crate::rank::Landing;
 use crate::rank::Stop;
 use crate::rank::factorial;
@@ -8,17 +9,18 @@ use crate::set::mark;
 ghost use mathlib.Core.Path.{_≡_};
 ghost use mathlib.Core.Bool.{true};
 ghost use mathlib.Core.Option.{some};
-ghost use Prim.Native.Nat.{ℕ, suc, _*_, _≤_, _<_};
+ghost use Prim.Native.Nat.{suc, _*_, _≤_, _<_};
 ghost use lib.ListN.{length};
 ghost use Rattle.orders.specs.Ranks.{fact};
-ghost use Rattle.orders.specs.Sets.{stretch, source, Gains};
+ghost use Rattle.orders.specs.Sets.{stretch, source, Empty, Gains, Exactly};
 ghost use Rattle.orders.specs.Stops.{Sound, hopAt};
 ghost use Rattle.orders.specs.Passes.{Leads, Reached};
 
-// Marks in gap g every rank that node g leads to from the ranks before it.
+// Marks in gap g, which is empty, every rank that node g leads to from the ranks before it.
 pub fn spread(work: &mut [u8], g: usize, stop: Stop)
     requires { ⌜ Sound stop × (stretch * suc g ≤ length (now work)) ⌝ }
-    ensures { λ _. ⌜ Gains (now (work .entry)) g (Reached stop (now (work .entry)) g) (now (work .exit)) ⌝ }
+    requires { ⌜ Empty (now work) g ⌝ }
+    ensures { λ _. ⌜ Exactly (now (work .entry)) g (Reached stop (now (work .entry)) g) (now (work .exit)) ⌝ }
 {
     let b = stop.count as usize;
     let m = factorial(b);
@@ -47,7 +49,7 @@ fn fan(work: &mut [u8], g: usize, stop: Stop, r: usize)
     ensures { λ _. ⌜ Gains (now (work .entry)) g (Leads stop r) (now (work .exit)) ⌝ }
 {
     let mut p: usize = 0;
-    while p < 6 {
+    while p < CAPACITY {
         leap(work, g, stop, r, p);
         p += 1;
     }

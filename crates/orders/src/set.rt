@@ -1,8 +1,8 @@
 // Sets of ranks in lent bytes: 90 bytes for the gap after each node.
 ghost use mathlib.Core.Path.{_≡_};
 ghost use mathlib.Core.Bool.{true, false, not};
-ghost use Prim.Native.Nat.{ℕ, suc, _*_, _≤_, _<_};
-ghost use lib.ListN.{length, getD};
+ghost use Prim.Native.Nat.{suc, _*_, _≤_, _<_};
+ghost use lib.ListN.{length};
 ghost use Rattle.orders.specs.Sets.{address, marked, source, Holds, Set, Bare, Clear, ranks, stretch};
 
 // The ranks of a gap.
@@ -55,6 +55,7 @@ fn turn(work: &mut [u8], g: usize, r: usize)
 
 // Where the bit of a rank stands in its gap's stretch.
 fn place(r: usize) -> usize
+    requires { ⌜ r < ranks ⌝ }
     ensures { λ k. ⌜ k ≡ address r ⌝ }
 {
     r

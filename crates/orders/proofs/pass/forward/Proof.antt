@@ -1,10 +1,7 @@
 -- `orders::pass::forward` meets its contract. The loop's invariant: the gaps passed hold exactly the ranks of ways.
-use mathlib.Core.Path.{_≡_, _∙_}
-use mathlib.Core.Bool.{true, false}
+use mathlib.Core.Path.{_∙_}
 use Prim.Native.Nat.{_-_}
 use native.Mathlib.Omega.{arith}
-use lib.ListN.{length}
-use Rattle.orders.specs.Sets.{Bare}
 use Rattle.orders.proofs.Filling.{Fills, fills-start, fills-step, fills-stuck, fills-end}
 use Rattle.orders.proofs.Nodes.{stop-ready}
 use Rattle.orders.proofs.pass.forward.Statement.{statement}
@@ -22,39 +19,46 @@ loop-holds c =
     let a = g .args in
     fills-start (a .kinds .now) (a .ages .now) (a .counts .now) (a .ku) (a .kl) (a .work .now) (g .pre .0) (g .pre .1)
 
-shared-slice-read-t12 : tie.Need-shared-slice-read-t12 Inv-loop μ-loop
-shared-slice-read-t12 c = omega arith
-
-shared-slice-read-t14 : tie.Need-shared-slice-read-t14 Inv-loop μ-loop
-shared-slice-read-t14 c = omega (arith, c .before .before .before .before .before .before .before .before .pre .0 .aged, c .before .before .loop-test .taken)
-
-shared-slice-read-t16 : tie.Need-shared-slice-read-t16 Inv-loop μ-loop
-shared-slice-read-t16 c = omega (arith, c .before .before .before .before .before .before .before .before .before .pre .0 .counted, c .before .before .before .loop-test .taken)
+stop-at-requires : tie.Need-stop-at-requires Inv-loop μ-loop
+stop-at-requires c κs =
+    let g = c .before .before .before .before .before .before .pre .0 in
+    (c .loop-test .taken, g .aged, g .counted)
 
 spread-requires : tie.Need-spread-requires Inv-loop μ-loop
 spread-requires c κs =
-    let g = c .before .before .before .before .before .before .before .before .before .before in
+    let g = c .before .before .before .before .before .before .before .before in
     let a = g .args in
-    let l = c .before .before .before .before .before .loop in
+    let l = c .before .before .before .loop in
     let p = l .inv .passes in
-    let t = c .before .before .before .before .loop-test .taken in
-    (stop-ready (a .kinds .now) (a .ages .now) (a .counts .now) (a .ku) (a .kl) (l .i) t (a .work .now) (p .end) (g .pre .0) (p .way) .0, omega (arith, g .pre .0 .room, l .inv .long, t))
+    let t = c .before .before .loop-test .taken in
+    let s = stop-ready (a .kinds .now) (a .ages .now) (a .counts .now) (a .ku) (a .kl) (l .i) t (a .work .now) (p .end) (g .pre .0)
+    (p .way) .0 in (
+      (rw (c .before .stop-at .ensures) s, omega (arith, g .pre .0 .room, l .inv .long, t)),
+      λ x h e. l .inv .empty (l .i) x
+          (omega arith) h e,
+    )
 
 bare-requires : tie.Need-bare-requires Inv-loop μ-loop
 bare-requires c κs =
-    let l = c .before .before .before .before .before .before .before .before .before .loop in
-    omega (arith, c .before .before .before .before .before .before .before .before .before .before .before .before .before .before .pre .0 .room, l .inv .long, c .before .before .before .spread .ensures .long, c .before .before .before .before .before .before .before .before .loop-test .taken)
+    let l = c .before .before .before .before .before .before .before .loop in
+    let room = c .before .before .before .before .before .before .before .before .before .before .before .before .pre .0 .room in
+    omega (arith, room, l .inv .long, c .before .before .before .spread .ensures .long, c .before .before .before .before .before .before .loop-test .taken)
 
 same-length : tie.Need-same-length Inv-loop μ-loop
-same-length c = c .before .before .before .before .before .spread .ensures .long ∙ c .before .before .before .before .before .before .before .before .before .before .before .loop .inv .long
+same-length c =
+    let l = c .before .before .before .before .before .before .before .before .before .loop in
+    c .before .before .before .before .before .spread .ensures .long ∙ l .inv .long
 
 returns : tie.Need-returns Inv-loop μ-loop
 returns c =
-    let g = c .before .before .before .before .before .before .before .before .before .before .before .before .before .before .before .before in
+    let g = c .before .before .before .before .before .before .before .before .before .before .before .before .before .before in
     let a = g .args in
-    let l = c .before .before .before .before .before .before .before .before .before .before .before .loop in
-    let e = rw (c .if1 .taken) at (c .before .bare .ensures) in
-    fills-stuck (a .kinds .now) (a .ages .now) (a .counts .now) (a .ku) (a .kl) (a .work .now) (g .pre .0) (l .i) (l .work) (c .before .before .before .before .before .spread .last .0) (c .before .before .before .before .before .before .before .before .before .before .loop-test .taken) (l .inv) (c .before .before .before .before .before .spread .ensures) e
+    let l = c .before .before .before .before .before .before .before .before .before .loop in
+    fills-stuck (a .kinds .now) (a .ages .now) (a .counts .now) (a .ku) (a .kl) (a .work .now) (g .pre .0) (l .i) (l .work)
+    (c .before .before .before .before .before .spread .last .0)
+    (c .before .before .before .before .before .before .before .before .loop-test .taken) (l .inv)
+    (rw (c .before .before .before .before .before .before .before .stop-at .ensures) at
+    (c .before .before .before .before .before .spread .ensures)) (rw (c .if1 .taken) at (c .before .bare .ensures))
 
 add-i : tie.Need-add-i Inv-loop μ-loop
 add-i c = omega arith
@@ -64,11 +68,14 @@ loop-less c = omega arith
 
 loop-again : tie.Need-loop-again Inv-loop μ-loop
 loop-again c =
-    let g = c .before .before .before .before .before .before .before .before .before .before .before .before .before .before .before .before in
+    let g = c .before .before .before .before .before .before .before .before .before .before .before .before .before .before in
     let a = g .args in
-    let l = c .before .before .before .before .before .before .before .before .before .before .before .loop in
-    let e = rw (c .if1 .left) at (c .before .bare .ensures) in
-    fills-step (a .kinds .now) (a .ages .now) (a .counts .now) (a .ku) (a .kl) (a .work .now) (g .pre .0) (l .i) (l .work) (c .before .before .before .before .before .spread .last .0) (c .before .before .before .before .before .before .before .before .before .before .loop-test .taken) (l .inv) (c .before .before .before .before .before .spread .ensures) e
+    let l = c .before .before .before .before .before .before .before .before .before .loop in
+    fills-step (a .kinds .now) (a .ages .now) (a .counts .now) (a .ku) (a .kl) (a .work .now) (g .pre .0) (l .i) (l .work)
+    (c .before .before .before .before .before .spread .last .0)
+    (c .before .before .before .before .before .before .before .before .loop-test .taken) (l .inv)
+    (rw (c .before .before .before .before .before .before .before .stop-at .ensures) at
+    (c .before .before .before .before .before .spread .ensures)) (rw (c .if1 .left) at (c .before .bare .ensures))
 
 same-length-2 : tie.Need-same-length-2 Inv-loop μ-loop
 same-length-2 c = c .before .loop .inv .long
@@ -78,7 +85,8 @@ returns-2 c =
     let g = c .before .before .before .before .before .before in
     let a = g .args in
     let l = c .before .loop in
-    fills-end (a .kinds .now) (a .ages .now) (a .counts .now) (a .ku) (a .kl) (a .work .now) (g .pre .0) (l .i) (l .work) (c .loop-test .left) (l .inv)
+    fills-end (a .kinds .now) (a .ages .now) (a .counts .now) (a .ku) (a .kl) (a .work .now) (g .pre .0) (l .i) (l .work)
+    (c .loop-test .left) (l .inv)
 
 pub forward-spec : {M : Type 1} → statement M
 forward-spec =
@@ -87,9 +95,7 @@ forward-spec =
     Inv-loop
     μ-loop
     loop-holds
-    shared-slice-read-t12
-    shared-slice-read-t14
-    shared-slice-read-t16
+    stop-at-requires
     spread-requires
     bare-requires
     same-length

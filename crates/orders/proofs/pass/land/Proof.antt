@@ -1,11 +1,10 @@
 -- `orders::pass::land` meets its contract: a hop that is told is tested for its mark.
 use mathlib.Core.Path.{_≡_, sym, _∙_}
 use mathlib.Core.Bool.{true}
-use mathlib.Core.Option.{some}
 use Rattle.orders.specs.Sets.{marked}
 use Rattle.orders.specs.Stops.{hopAt}
 use Rattle.orders.proofs.Bits.{not-both}
-use Rattle.orders.proofs.Hops.{told-to, told-nowhere, stop-lands, same-some, none-some}
+use Rattle.orders.proofs.Hops.{told-to, told-nowhere, stop-lands, same-some}
 use Rattle.orders.proofs.Spreading.{misses-none}
 use borrow.Author.Needs.{needs}
 use Rattle.orders.proofs.pass.land.Statement.{statement}
@@ -33,7 +32,8 @@ is-marked-requires c κs =
     let o = hopAt (g .args .stop) (g .args .r) (g .args .p) in
     record {
       gap = g .pre .0 .1;
-      rank = stop-lands (g .args .stop) (g .args .r) (g .args .p) (x .0 .0) (g .pre .0 .0) (g .pre .1) (told-to o (x .0 .0) (sym (x .1) ∙ c .before .before .before .hop .ensures)) .1;
+      rank = stop-lands (g .args .stop) (g .args .r) (g .args .p) (x .0 .0) (g .pre .0 .0) (g .pre .1)
+          (told-to o (x .0 .0) (sym (x .1) ∙ c .before .before .before .hop .ensures)) .1;
     }
 
 returns-2 : tie.Need-returns-2

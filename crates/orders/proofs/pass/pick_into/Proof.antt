@@ -1,5 +1,4 @@
 -- `orders::pass::pick_into` meets its contract. The loop's invariant: the positions so far begin the first of all.
-use mathlib.Core.Path.{_≡_}
 use Prim.Native.Nat.{_-_}
 use native.Mathlib.Omega.{arith}
 use borrow.Author.Needs.{needs}
@@ -18,25 +17,23 @@ loop-holds : tie.Need-loop-holds Inv-loop μ-loop
 loop-holds c =
     let g = c .before .before .before .before .before in
     let a = g .args in
-    picks-start (a .kinds .now) (a .ages .now) (a .counts .now) (a .ku) (a .kl) (a .work .now) (g .pre .0) (g .pre .1 .0) (a .old .ps) (g .pre .1 .1 .1 .1) (g .pre .1 .1 .0)
+    picks-start (a .kinds .now) (a .ages .now) (a .counts .now) (a .ku) (a .kl) (a .work .now) (g .pre .0) (g .pre .1 .0) (a .old .ps)
+    (g .pre .1 .1 .1 .1) (g .pre .1 .1 .0)
 
-shared-slice-read-ps : tie.Need-shared-slice-read-ps Inv-loop μ-loop
-shared-slice-read-ps c = omega (arith, c .before .loop-test .taken)
-
-shared-slice-read-t19 : tie.Need-shared-slice-read-t19 Inv-loop μ-loop
-shared-slice-read-t19 c = omega (arith, c .before .before .before .before .before .before .before .before .before .pre .0 .aged, c .before .before .loop-test .taken)
-
-shared-slice-read-t21 : tie.Need-shared-slice-read-t21 Inv-loop μ-loop
-shared-slice-read-t21 c = omega (arith, c .before .before .before .before .before .before .before .before .before .before .pre .0 .counted, c .before .before .before .loop-test .taken)
+stop-at-requires : tie.Need-stop-at-requires Inv-loop μ-loop
+stop-at-requires c κs =
+    let g = c .before .before .before .before .before .before .before .pre .0 in
+    (c .loop-test .taken, g .aged, g .counted)
 
 choose-requires : tie.Need-choose-requires Inv-loop μ-loop
 choose-requires c κs =
-    let g = c .before .before .before .before .before .before .before .before .before .before in
+    let g = c .before .before .before .before .before .before .before .before in
     let a = g .args in
-    let l = c .before .before .before .before .loop in
-    let t = c .before .before .before .loop-test .taken in
-    let s = stop-ready (a .kinds .now) (a .ages .now) (a .counts .now) (a .ku) (a .kl) (l .i) t (a .work .now) (l .r) (g .pre .0) (l .inv .way) in
-    ((s .0, omega (arith, g .pre .0 .room, t)), s .1)
+    let l = c .before .before .loop in
+    let t = c .before .loop-test .taken in
+    let s = stop-ready (a .kinds .now) (a .ages .now) (a .counts .now) (a .ku) (a .kl) (l .i) t (a .work .now) (l .r) (g .pre .0)
+    (l .inv .way) in
+    rw (c .stop-at .ensures) ((s .0, omega (arith, g .pre .0 .room, t)), s .1)
 
 enum-known-p : tie.Need-enum-known-p Inv-loop μ-loop
 enum-known-p c = search needs
@@ -46,10 +43,12 @@ enum-told c = search needs
 
 returns : tie.Need-returns Inv-loop μ-loop
 returns c =
-    let g = c .before .before .before .before .before .before .before .before .before .before .before .before .before in
+    let g = c .before .before .before .before .before .before .before .before .before .before .before in
     let a = g .args in
-    let l = c .before .before .before .before .before .before .before .loop in
-    absurd (never-stuck (a .kinds .now) (a .ages .now) (a .counts .now) (a .ku) (a .kl) (a .work .now) (g .pre .0) (g .pre .1 .0) (l .i) (l .r) (l .ps) (c .before .before .before .before .before .before .loop-test .taken) (l .inv) (rw (c .enum-told .given .1) at (c .before .before .choose .ensures)))
+    let l = c .before .before .before .before .before .loop in
+    let e = rw (c .before .before .before .stop-at .ensures) at (rw (c .enum-told .given .1) at (c .before .before .choose .ensures)) in
+    absurd (never-stuck (a .kinds .now) (a .ages .now) (a .counts .now) (a .ku) (a .kl) (a .work .now) (g .pre .0) (g .pre .1 .0) (l .i)
+    (l .r) (l .ps) (c .before .before .before .before .loop-test .taken) (l .inv) e)
 
 cast-ps : tie.Need-cast-ps Inv-loop μ-loop
 cast-ps c =
@@ -57,21 +56,27 @@ cast-ps c =
     omega (arith, m .low)
 
 array-write-ps : tie.Need-array-write-ps Inv-loop μ-loop
-array-write-ps c = omega (arith, c .before .before .before .before .before .before .before .before .before .before .before .before .before .before .pre .1 .1 .1 .0, c .before .before .before .before .before .before .before .loop-test .taken)
+array-write-ps c =
+    let few = c .before .before .before .before .before .before .before .before .before .before .before .before .pre .1 .1 .1 .0 in
+    omega (arith, few, c .before .before .before .before .before .loop-test .taken)
 
 add-i : tie.Need-add-i Inv-loop μ-loop
-add-i c = omega (arith, c .before .before .before .before .before .before .before .before .before .before .before .before .before .before .pre .1 .1 .1 .0, c .before .before .before .before .before .before .before .loop-test .taken)
+add-i c =
+    let few = c .before .before .before .before .before .before .before .before .before .before .before .before .pre .1 .1 .1 .0 in
+    omega (arith, few, c .before .before .before .before .before .loop-test .taken)
 
 loop-less : tie.Need-loop-less Inv-loop μ-loop
-loop-less c = omega (arith, c .before .before .before .before .before .before .before .loop-test .taken)
+loop-less c = omega (arith, c .before .before .before .before .before .loop-test .taken)
 
 loop-again : tie.Need-loop-again Inv-loop μ-loop
 loop-again c =
-    let g = c .before .before .before .before .before .before .before .before .before .before .before .before .before .before in
+    let g = c .before .before .before .before .before .before .before .before .before .before .before .before in
     let a = g .args in
-    let l = c .before .before .before .before .before .before .before .before .loop in
+    let l = c .before .before .before .before .before .before .loop in
     let w = c .before .p .given in
-    picks-step (a .kinds .now) (a .ages .now) (a .counts .now) (a .ku) (a .kl) (a .work .now) (g .pre .0) (g .pre .1 .0) (l .i) (l .r) (l .ps) (c .before .before .before .before .before .before .before .loop-test .taken) (l .inv) (w .0 .0) (w .0 .1 .0) (g .pre .1 .1 .1 .0) (rw (w .1) at (c .before .before .before .choose .ensures))
+    let e = rw (c .before .before .before .before .stop-at .ensures) at (rw (w .1) at (c .before .before .before .choose .ensures)) in
+    picks-step (a .kinds .now) (a .ages .now) (a .counts .now) (a .ku) (a .kl) (a .work .now) (g .pre .0) (g .pre .1 .0) (l .i) (l .r)
+    (l .ps) (c .before .before .before .before .before .loop-test .taken) (l .inv) (w .0 .0) (w .0 .1 .0) (g .pre .1 .1 .1 .0) e
 
 returns-2 : tie.Need-returns-2 Inv-loop μ-loop
 returns-2 c =
@@ -80,7 +85,8 @@ returns-2 c =
     let l = c .before .loop in
     record {
       cells = l .inv .cells;
-      first = picks-end (a .kinds .now) (a .ages .now) (a .counts .now) (a .ku) (a .kl) (a .work .now) (g .pre .0) (g .pre .1 .0) (l .i) (l .r) (l .ps) (c .loop-test .left) (l .inv);
+      first = picks-end (a .kinds .now) (a .ages .now) (a .counts .now) (a .ku) (a .kl) (a .work .now) (g .pre .0) (g .pre .1 .0) (l .i)
+          (l .r) (l .ps) (c .loop-test .left) (l .inv);
     }
 
 pub pick-into-spec : {M : Type 1} → statement M
@@ -90,9 +96,7 @@ pick-into-spec =
     Inv-loop
     μ-loop
     loop-holds
-    shared-slice-read-ps
-    shared-slice-read-t19
-    shared-slice-read-t21
+    stop-at-requires
     choose-requires
     enum-known-p
     enum-told

@@ -1,5 +1,5 @@
 -- `orders::pass::prune` meets its contract. The loop's invariant: the gaps from that before node i on are pruned.
-use mathlib.Core.Path.{_≡_, _∙_}
+use mathlib.Core.Path.{_≡_}
 use Prim.Native.Nat.{suc, _-_}
 use native.Mathlib.Omega.{arith}
 use Rattle.orders.proofs.Pruning.{Prunes, prunes-start, mark-below, prunes-step, prunes-end}
@@ -22,42 +22,45 @@ loop-holds c =
 sub-at : tie.Need-sub-at Inv-loop μ-loop
 sub-at c = omega arith
 
-shared-slice-read-t12 : tie.Need-shared-slice-read-t12 Inv-loop μ-loop
-shared-slice-read-t12 c = omega (arith, c .before .before .loop .inv .node, c .before .loop-test .taken)
-
-shared-slice-read-t14 : tie.Need-shared-slice-read-t14 Inv-loop μ-loop
-shared-slice-read-t14 c = omega (arith, c .before .before .before .before .before .before .before .before .pre .0 .aged, c .before .before .before .loop .inv .node, c .before .before .loop-test .taken)
-
-shared-slice-read-t16 : tie.Need-shared-slice-read-t16 Inv-loop μ-loop
-shared-slice-read-t16 c = omega (arith, c .before .before .before .before .before .before .before .before .before .pre .0 .counted, c .before .before .before .before .loop .inv .node, c .before .before .before .loop-test .taken)
+stop-at-requires : tie.Need-stop-at-requires Inv-loop μ-loop
+stop-at-requires c κs =
+    let g = c .before .before .before .before .before .before .pre .0 in
+    (omega (arith, c .before .loop .inv .node, c .loop-test .taken), g .aged, g .counted)
 
 sub-prune-set : tie.Need-sub-prune-set Inv-loop μ-loop
-sub-prune-set c = omega (arith, c .before .before .before .before .loop-test .taken)
+sub-prune-set c = omega (arith, c .before .before .loop-test .taken)
 
 prune-set-requires : tie.Need-prune-set-requires Inv-loop μ-loop
 prune-set-requires c κs =
-    let g = c .before .before .before .before .before .before .before .before .before .before in
+    let g = c .before .before .before .before .before .before .before .before in
     let a = g .args in
-    let l = c .before .before .before .before .before .loop in
-    let t = c .before .before .before .before .loop-test .taken in
+    let l = c .before .before .before .loop in
+    let t = c .before .before .loop-test .taken in
     let ei : l .i ≡ suc (l .i - 1) = omega (arith, t) in
-    let eh : l .i - 1 ≡ suc (l .i - 1 - 1) = omega (arith, t) in (
-      (stop-sound (a .kinds .now) (a .ages .now) (a .counts .now) (a .ku) (a .kl) (l .i - 1) (a .work .now) (omega (arith, l .inv .node, t)) (g .pre .0) (g .pre .1 .1), omega (arith, g .pre .0 .room, l .inv .long, l .inv .node)),
-      mark-below (a .kinds .now) (a .ages .now) (a .counts .now) (a .ku) (a .kl) (a .work .now) (g .pre .0) (g .pre .1 .0) (l .i) (l .i - 1) (l .i - 1 - 1) (l .work) ei eh (l .inv),
+    let eh : l .i - 1 ≡ suc (l .i - 1 - 1) = omega (arith, t) in
+    let s = stop-sound (a .kinds .now) (a .ages .now) (a .counts .now) (a .ku) (a .kl) (l .i - 1) (a .work .now)
+    (omega (arith, l .inv .node, t)) (g .pre .0) (g .pre .1 .1) in
+    let b = mark-below (a .kinds .now) (a .ages .now) (a .counts .now) (a .ku) (a .kl) (a .work .now) (g .pre .0) (g .pre .1 .0) (l .i)
+    (l .i - 1) (l .i - 1 - 1) (l .work) ei eh (l .inv) in (
+      (rw (c .before .stop-at .ensures) s, omega (arith, g .pre .0 .room, l .inv .long, l .inv .node)),
+      rw
+          (c .before .stop-at .ensures) b,
     )
 
 loop-less : tie.Need-loop-less Inv-loop μ-loop
-loop-less c = omega (arith, c .before .before .before .before .before .before .before .loop-test .taken)
+loop-less c = omega (arith, c .before .before .before .before .before .loop-test .taken)
 
 loop-again : tie.Need-loop-again Inv-loop μ-loop
 loop-again c =
-    let g = c .before .before .before .before .before .before .before .before .before .before .before .before .before in
+    let g = c .before .before .before .before .before .before .before .before .before .before .before in
     let a = g .args in
-    let l = c .before .before .before .before .before .before .before .before .loop in
-    let t = c .before .before .before .before .before .before .before .loop-test .taken in
+    let l = c .before .before .before .before .before .before .loop in
+    let t = c .before .before .before .before .before .loop-test .taken in
     let ei : l .i ≡ suc (l .i - 1) = omega (arith, t) in
     let eh : l .i - 1 ≡ suc (l .i - 1 - 1) = omega (arith, t) in
-    prunes-step (a .kinds .now) (a .ages .now) (a .counts .now) (a .ku) (a .kl) (a .work .now) (g .pre .0) (g .pre .1 .0) (l .i) (l .i - 1) (l .i - 1 - 1) (l .work) ei eh (l .inv) (c .before .before .prune-set .last .0) (c .before .before .prune-set .ensures)
+    prunes-step (a .kinds .now) (a .ages .now) (a .counts .now) (a .ku) (a .kl) (a .work .now) (g .pre .0) (g .pre .1 .0) (l .i)
+    (l .i - 1) (l .i - 1 - 1) (l .work) ei eh (l .inv) (c .before .before .prune-set .last .0)
+    (rw (c .before .before .before .before .stop-at .ensures) at (c .before .before .prune-set .ensures))
 
 same-length : tie.Need-same-length Inv-loop μ-loop
 same-length c = c .before .loop .inv .long
@@ -67,7 +70,8 @@ returns c =
     let g = c .before .before .before .before .before .before in
     let a = g .args in
     let l = c .before .loop in
-    prunes-end (a .kinds .now) (a .ages .now) (a .counts .now) (a .ku) (a .kl) (a .work .now) (g .pre .0) (g .pre .1 .0) (l .i) (l .work) (c .loop-test .left) (l .inv)
+    prunes-end (a .kinds .now) (a .ages .now) (a .counts .now) (a .ku) (a .kl) (a .work .now) (g .pre .0) (g .pre .1 .0) (l .i)
+    (l .work) (c .loop-test .left) (l .inv)
 
 pub prune-spec : {M : Type 1} → statement M
 prune-spec =
@@ -77,9 +81,7 @@ prune-spec =
     μ-loop
     loop-holds
     sub-at
-    shared-slice-read-t12
-    shared-slice-read-t14
-    shared-slice-read-t16
+    stop-at-requires
     sub-prune-set
     prune-set-requires
     loop-less

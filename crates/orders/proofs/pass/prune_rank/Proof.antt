@@ -21,7 +21,8 @@ same-length c = search needs
 returns : tie.Need-returns
 returns c =
     let g = c .before .before .before .before .args in
-    rank-absent (g .work .now) (g .g) (suc (g .g)) (g .r) (g .stop) refl (sym (c .before .is-marked .ensures) ∙ not-true (c .before .is-marked .result) (c .if1 .taken))
+    rank-absent (g .work .now) (g .g) (suc (g .g)) (g .r) (g .stop) refl
+    (sym (c .before .is-marked .ensures) ∙ not-true (c .before .is-marked .result) (c .if1 .taken))
 
 add-choose : tie.Need-add-choose
 add-choose c = search needs
@@ -44,7 +45,8 @@ returns-2 : tie.Need-returns-2
 returns-2 c =
     let g = c .before .before .before .before .before .before .before .before .args in
     let w = c .enum-told2 .given in
-    rank-goes (g .work .now) (g .g) (g .g + 1) (g .r) (g .stop) (add-one (g .g)) (w .0 .0) (w .0 .1 .0) (rw (w .1) at (c .before .before .choose .ensures))
+    rank-goes (g .work .now) (g .g) (g .g + 1) (g .r) (g .stop) (add-one (g .g)) (w .0 .0) (w .0 .1 .0)
+    (rw (w .1) at (c .before .before .choose .ensures))
 
 unmark-requires : tie.Need-unmark-requires
 unmark-requires c κs =
@@ -57,7 +59,9 @@ same-length-3 c = search needs
 returns-3 : tie.Need-returns-3
 returns-3 c =
     let g = c .before .before .before .before .before .before .before .before .before .before .before .before .args in
-    rank-stuck (g .work .now) (g .g) (g .g + 1) (g .r) (g .stop) (add-one (g .g)) (c .before .before .unmark .last .0) (rw (c .before .before .before .before .enum-told .given .1) at (c .before .before .before .before .before .before .choose .ensures)) (c .before .before .unmark .ensures)
+    rank-stuck (g .work .now) (g .g) (g .g + 1) (g .r) (g .stop) (add-one (g .g)) (c .before .before .unmark .last .0)
+    (rw (c .before .before .before .before .enum-told .given .1) at
+    (c .before .before .before .before .before .before .choose .ensures)) (c .before .before .unmark .ensures)
 
 pub prune-rank-spec : {M : Type 1} → statement M
 prune-rank-spec =

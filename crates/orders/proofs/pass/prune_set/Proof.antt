@@ -1,10 +1,8 @@
 -- `orders::pass::prune_set` meets its contract. The loop's invariant: the ranks passed are left exactly where the node leads on.
-use mathlib.Core.Path.{_≡_}
 use Prim.Native.Nat.{suc, _-_, _≤_, _<_}
 use native.Mathlib.Omega.{arith}
 use borrow.Author.Needs.{needs}
 use Rattle.orders.specs.Sets.{Loses}
-use Rattle.orders.specs.Ranks.{fact}
 use Rattle.orders.specs.Passes.{Onward}
 use Rattle.orders.proofs.Pruning.{ranks-start, ranks-step, ranks-end}
 use Rattle.orders.proofs.pass.prune_set.Statement.{statement}
@@ -29,8 +27,11 @@ loop-holds c =
 
 prune-rank-requires : tie.Need-prune-rank-requires Inv-loop μ-loop
 prune-rank-requires c κs =
-    let g = c .before .before .before .before .before .before in
-    ((g .pre .0 .0, omega (arith, g .pre .0 .1, c .before .before .loop .inv .0 .long)), rw (← c .before .before .before .factorial .ensures .value) (c .before .loop-test .taken))
+    let g = c .before .before .before .before .before .before in (
+      (g .pre .0 .0, omega (arith, g .pre .0 .1, c .before .before .loop .inv .0 .long)),
+      rw
+          (← c .before .before .before .factorial .ensures .value) (c .before .loop-test .taken),
+    )
 
 add-r : tie.Need-add-r Inv-loop μ-loop
 add-r c = omega arith
@@ -41,8 +42,11 @@ loop-less c = omega arith
 loop-again : tie.Need-loop-again Inv-loop μ-loop
 loop-again c =
     let g = c .before .before .before .before .before .before .before .before .before .args in
-    let l = c .before .before .before .before .before .loop in
-    (ranks-step (g .work .now) (g .g) (g .stop) (l .r) (l .work) (c .before .before .prune-rank .last .0) (l .inv .0) (c .before .before .prune-rank .ensures), omega arith)
+    let l = c .before .before .before .before .before .loop in (
+      ranks-step (g .work .now) (g .g) (g .stop) (l .r) (l .work) (c .before .before .prune-rank .last .0) (l .inv .0)
+          (c .before .before .prune-rank .ensures),
+      omega arith,
+    )
 
 same-length : tie.Need-same-length Inv-loop μ-loop
 same-length c = c .before .loop .inv .0 .long

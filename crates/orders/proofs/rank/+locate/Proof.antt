@@ -76,8 +76,10 @@ locate-returns t c =
     let g = c .before .before .args in
     let e : g .b ≡ suc (g .b - 1) = omega (arith, c .before .before .pre .1) in
     record {
-      at = at-youngest (g .a) (g .b) (g .b - 1) (g .r) (c .before .factorial .result) (c .if1 .taken) e (c .before .factorial .ensures .value);
-      rest = less-youngest (g .a) (g .b) (g .b - 1) (g .r) (c .before .factorial .result) (c .if1 .taken) e (c .before .factorial .ensures .value);
+      at = at-youngest (g .a) (g .b) (g .b - 1) (g .r) (c .before .factorial .result) (c .if1 .taken) e
+          (c .before .factorial .ensures .value);
+      rest = less-youngest (g .a) (g .b) (g .b - 1) (g .r) (c .before .factorial .result) (c .if1 .taken) e
+          (c .before .factorial .ensures .value);
     }
 
 locate-sub-beside : (t : ℕ) → locate-lts.Need-sub-beside (
@@ -122,7 +124,8 @@ locate-locate-requires t c κs =
     let g = c .before .before in
     let m : 0 < g .args .a = omega (arith, c .if1 .left) in
     let v = c .before .factorial .ensures .value in
-    let h : g .args .r % c .before .factorial .result < fact (g .args .b - 1) = rw v (mod-lt (g .args .r) (fact-pos (g .args .b - 1))) in
+    let h : g .args .r % c .before .factorial .result < fact (g .args .b - 1) = rw v
+    (mod-lt (g .args .r) (fact-pos (g .args .b - 1))) in
     (omega (arith, g .pre .0, g .pre .1), (omega (arith, g .pre .1), omega (arith, g .pre .1), h))
 
 locate-beside-requires : (t : ℕ) → locate-lts.Need-beside-requires (
@@ -138,15 +141,29 @@ locate-beside-requires t c κs =
     let m : 0 < g .args .a = omega (arith, c .before .if1 .left) in
     let b : 0 < g .args .b = omega (arith, g .pre .1) in
     let v = c .before .before .factorial .ensures .value in
-    let l : g .args .r % c .before .before .factorial .result < fact (g .args .b - 1) = rw v (mod-lt (g .args .r) (fact-pos (g .args .b - 1))) in
+    let l : g .args .r % c .before .before .factorial .result < fact (g .args .b - 1) = rw v
+    (mod-lt (g .args .r) (fact-pos (g .args .b - 1))) in
     let e : suc (g .args .b - 1) ≡ g .args .b = omega arith in
     let q : g .args .r / c .before .before .factorial .result < suc (g .args .b - 1) =
     rw v (digit-lt (g .args .b - 1) (g .args .r) (rw e (g .pre .1 .2))) in
     let a : g .args .a - 1 < g .args .b - 1 = omega (arith, g .pre .1) in (
       (omega (arith, g .pre .1), omega (arith, g .pre .1), omega (arith, g .pre .1)),
       (
-        omega (arith, g .pre .1, c .locate .ensures .at, at-lt (g .args .a - 1) (g .args .b - 1) (g .args .r % c .before .before .factorial .result) a l),
-        omega (arith, g .pre .1, c .locate .ensures .rest, less-lt (g .args .a - 1) (g .args .b - 1) (g .args .r % c .before .before .factorial .result) a l, fact-six (g .args .b - 1 - 1) (omega (arith, g .pre .1))),
+        omega (
+          arith,
+          g .pre .1,
+          c .locate .ensures .at,
+          at-lt (g .args .a - 1) (g .args .b - 1)
+              (g .args .r % c .before .before .factorial .result) a l,
+        ),
+        omega (
+          arith,
+          g .pre .1,
+          c .locate .ensures .rest,
+          less-lt (g .args .a - 1) (g .args .b - 1)
+              (g .args .r % c .before .before .factorial .result) a l,
+          fact-six (g .args .b - 1 - 1) (omega (arith, g .pre .1)),
+        ),
       ),
     )
 
@@ -165,8 +182,10 @@ locate-returns-2 t c =
     let eb : g .args .b ≡ suc (g .args .b - 1) = omega (arith, g .pre .1) in
     let o = c .before .locate in
     record {
-      at = c .beside .ensures .at ∙ at-older (g .args .a) (g .args .b) (g .args .a - 1) (g .args .b - 1) (g .args .r) (f .result) (o .result .at) ea eb (f .ensures .value) (o .ensures .at);
-      rest = c .beside .ensures .rest ∙ less-older (g .args .a) (g .args .b) (g .args .a - 1) (g .args .b - 1) (g .args .r) (f .result) (o .result .at) ea eb (f .ensures .value) (o .ensures .at) (o .result .rest) (o .ensures .rest);
+      at = c .beside .ensures .at ∙ at-older (g .args .a) (g .args .b) (g .args .a - 1) (g .args .b - 1) (g .args .r) (f .result)
+          (o .result .at) ea eb (f .ensures .value) (o .ensures .at);
+      rest = c .beside .ensures .rest ∙ less-older (g .args .a) (g .args .b) (g .args .a - 1) (g .args .b - 1) (g .args .r) (f .result)
+          (o .result .at) ea eb (f .ensures .value) (o .ensures .at) (o .result .rest) (o .ensures .rest);
     }
 
 pub +locate-spec : {M : Type 1} → statement M

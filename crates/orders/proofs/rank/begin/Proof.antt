@@ -1,11 +1,10 @@
 -- `orders::rank::begin` meets its contract, by the laws of a hop that begins a net.
-use mathlib.Core.Path.{_≡_, sym, ap, _∙_}
-use Prim.Native.Nat.{ℕ, suc, _+_, _*_, _≤_}
+use mathlib.Core.Path.{sym, ap, _∙_}
+use Prim.Native.Nat.{ℕ, _+_, _*_}
 use native.Mathlib.Nat.{mul-le-mul}
 use native.Mathlib.Numerals.{add-one}
 use native.Mathlib.Omega.{arith}
 use borrow.Author.Needs.{needs}
-use Rattle.orders.specs.Ranks.{fact}
 use Rattle.orders.specs.Stops.{told}
 use Rattle.orders.specs.declared.rank.Landing.the-variants.{To}
 use Rattle.orders.proofs.Ranks.{fact-six}
@@ -32,13 +31,15 @@ factorial-requires c κs = search needs
 mul-t10 : tie.Need-mul-t10
 mul-t10 c =
     let g = c .before .before .before .before .args in
-    let s = fit-small (g .stop .ku) (g .stop .kl) (g .p) (g .stop .count + 1) (sym (c .before .before .fit .ensures) ∙ c .before .if1 .taken) (omega arith) (omega arith) in
+    let s = fit-small (g .stop .ku) (g .stop .kl) (g .p) (g .stop .count + 1)
+    (sym (c .before .before .fit .ensures) ∙ c .before .if1 .taken) (omega arith) (omega arith) in
     omega (arith, mul-le-mul (s .0) (c .factorial .ensures .most))
 
 add-t11 : tie.Need-add-t11
 add-t11 c =
     let g = c .before .before .before .before .args in
-    let s = fit-small (g .stop .ku) (g .stop .kl) (g .p) (g .stop .count + 1) (sym (c .before .before .fit .ensures) ∙ c .before .if1 .taken) (omega arith) (omega arith) in
+    let s = fit-small (g .stop .ku) (g .stop .kl) (g .p) (g .stop .count + 1)
+    (sym (c .before .before .fit .ensures) ∙ c .before .if1 .taken) (omega arith) (omega arith) in
     omega (arith, mul-le-mul (s .0) (c .factorial .ensures .most), fact-six (g .stop .count) (omega arith))
 
 returns : tie.Need-returns

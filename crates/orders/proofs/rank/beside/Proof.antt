@@ -1,10 +1,9 @@
 -- `orders::rank::beside` meets its contract: `under` and `spared` go by the same test.
-use mathlib.Core.Path.{_≡_, sym, ap, ap₂, _∙_}
-use Prim.Native.Nat.{ℕ, suc, _+_, _-_, _*_, _≤_}
+use mathlib.Core.Path.{sym, ap₂}
+use Prim.Native.Nat.{ℕ, _+_, _-_, _*_, _≤_}
 use native.Mathlib.Nat.{mul-le-mul}
 use native.Mathlib.Omega.{arith}
 use borrow.Author.Needs.{needs}
-use Rattle.orders.specs.Ranks.{fact}
 use Rattle.orders.proofs.Ranks.{under-above, under-below, spared-above, spared-below}
 use Rattle.orders.proofs.rank.beside.Statement.{statement}
 use Rattle.orders.proofs.rank.beside.Tie as tie
@@ -29,7 +28,8 @@ returns c =
     let g = c .before .before .args in
     record {
       at = omega (arith, under-above (g .first) (g .place .at) (c .if1 .taken));
-      rest = ap₂ (λ (q f : ℕ). q * f + g .place .rest) (sym (spared-above (g .first) (g .place .at) (c .if1 .taken))) (c .before .factorial .ensures .value);
+      rest = ap₂ (λ (q f : ℕ). q * f + g .place .rest) (sym (spared-above (g .first) (g .place .at) (c .if1 .taken)))
+          (c .before .factorial .ensures .value);
     }
 
 sub-t7 : tie.Need-sub-t7
@@ -40,18 +40,27 @@ less q h = omega arith
 
 mul-t12 : tie.Need-mul-t12
 mul-t12 c =
-    omega (arith, mul-le-mul (less (c .before .before .args .first) (c .before .before .pre .0 .2)) (c .before .factorial .ensures .most))
+    omega (
+      arith,
+      mul-le-mul (less (c .before .before .args .first) (c .before .before .pre .0 .2))
+          (c .before .factorial .ensures .most),
+    )
 
 add-t13 : tie.Need-add-t13
 add-t13 c =
-    omega (arith, mul-le-mul (less (c .before .before .args .first) (c .before .before .pre .0 .2)) (c .before .factorial .ensures .most))
+    omega (
+      arith,
+      mul-le-mul (less (c .before .before .args .first) (c .before .before .pre .0 .2))
+          (c .before .factorial .ensures .most),
+    )
 
 returns-2 : tie.Need-returns-2
 returns-2 c =
     let g = c .before .before .args in
     record {
       at = sym (under-below (g .first) (g .place .at) (c .if1 .left));
-      rest = ap₂ (λ (q f : ℕ). q * f + g .place .rest) (sym (spared-below (g .first) (g .place .at) (c .if1 .left))) (c .before .factorial .ensures .value);
+      rest = ap₂ (λ (q f : ℕ). q * f + g .place .rest) (sym (spared-below (g .first) (g .place .at) (c .if1 .left)))
+          (c .before .factorial .ensures .value);
     }
 
 pub beside-spec : {M : Type 1} → statement M

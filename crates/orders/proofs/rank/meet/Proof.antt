@@ -26,13 +26,16 @@ returns : tie.Need-returns
 returns c =
     let g = c .before .before .before .before .before .before in
     let t = g .args .stop in
-    sym (ap told (hop-elsewhere (t .ku) (t .kl) (t .kind) (t .age) (t .count) (g .args .r) (g .args .p) (g .pre .0 .1) (λ e. c .if2 .taken (e ∙ sym (c .before .locate .ensures .at)))))
+    sym (ap told (hop-elsewhere (t .ku) (t .kl) (t .kind) (t .age) (t .count) (g .args .r) (g .args .p) (g .pre .0 .1)
+    (λ e. c .if2 .taken (e ∙ sym (c .before .locate .ensures .at)))))
 
 returns-2 : tie.Need-returns-2
 returns-2 c =
     let g = c .before .before .before .before .before .before .before in
     let t = g .args .stop in
-    sym (ap told (hop-meets (t .ku) (t .kl) (t .kind) (t .age) (t .count) (g .args .r) (g .args .p) (c .if3 .taken) (c .before .if2 .left ∙ c .before .before .locate .ensures .at) (sym (c .before .before .before .before .fit .ensures) ∙ c .before .before .before .if1 .taken)))
+    sym (ap told (hop-meets (t .ku) (t .kl) (t .kind) (t .age) (t .count) (g .args .r) (g .args .p) (c .if3 .taken)
+    (c .before .if2 .left ∙ c .before .before .locate .ensures .at)
+    (sym (c .before .before .before .before .fit .ensures) ∙ c .before .before .before .if1 .taken)))
 
 returns-3 : tie.Need-returns-3
 returns-3 c =
@@ -40,13 +43,16 @@ returns-3 c =
     let t = g .args .stop in
     let e : t .kind ≡ 2 = omega (arith, c .if3 .left, g .pre .0) in
     ap To (c .before .before .locate .ensures .rest) ∙
-    sym (ap told (hop-ends (t .ku) (t .kl) (t .kind) (t .age) (t .count) (g .args .r) (g .args .p) e (c .before .if2 .left ∙ c .before .before .locate .ensures .at) (sym (c .before .before .before .before .fit .ensures) ∙ c .before .before .before .if1 .taken)))
+    sym (ap told (hop-ends (t .ku) (t .kl) (t .kind) (t .age) (t .count) (g .args .r) (g .args .p) e
+    (c .before .if2 .left ∙ c .before .before .locate .ensures .at)
+    (sym (c .before .before .before .before .fit .ensures) ∙ c .before .before .before .if1 .taken)))
 
 returns-4 : tie.Need-returns-4
 returns-4 c =
     let g = c .before .before .before .before in
     let t = g .args .stop in
-    sym (ap told (hop-unmet (t .ku) (t .kl) (t .kind) (t .age) (t .count) (g .args .r) (g .args .p) (g .pre .0 .1) (sym (c .before .fit .ensures) ∙ c .if1 .left)))
+    sym (ap told (hop-unmet (t .ku) (t .kl) (t .kind) (t .age) (t .count) (g .args .r) (g .args .p) (g .pre .0 .1)
+    (sym (c .before .fit .ensures) ∙ c .if1 .left)))
 
 pub meet-spec : {M : Type 1} → statement M
 meet-spec =

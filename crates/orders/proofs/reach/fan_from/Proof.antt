@@ -21,7 +21,9 @@ same-length c = search needs
 returns : tie.Need-returns
 returns c =
     let g = c .before .before .before .before .before .before .before .before .args in
-    fan-where (g .work .now) (g .g) (g .stop) (g .r) (c .before .before .fan .last .0) (sym (c .before .before .before .before .before .is-source .ensures) ∙ c .before .before .before .before .if1 .taken) (c .before .before .fan .ensures)
+    fan-where (g .work .now) (g .g) (g .stop) (g .r) (c .before .before .fan .last .0)
+    (sym (c .before .before .before .before .before .is-source .ensures) ∙ c .before .before .before .before .if1 .taken)
+    (c .before .before .fan .ensures)
 
 same-length-2 : tie.Need-same-length-2
 same-length-2 c = search needs

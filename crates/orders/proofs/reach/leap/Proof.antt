@@ -29,7 +29,8 @@ mark-requires c κs =
     let o = hopAt (g .args .stop) (g .args .r) (g .args .p) in
     record {
       gap = g .pre .0 .1;
-      rank = stop-lands (g .args .stop) (g .args .r) (g .args .p) (x .0 .0) (g .pre .0 .0) (g .pre .1) (told-to o (x .0 .0) (sym (x .1) ∙ c .before .before .before .before .hop .ensures)) .1;
+      rank = stop-lands (g .args .stop) (g .args .r) (g .args .p) (x .0 .0) (g .pre .0 .0) (g .pre .1)
+          (told-to o (x .0 .0) (sym (x .1) ∙ c .before .before .before .before .hop .ensures)) .1;
     }
 
 same-length : tie.Need-same-length
@@ -40,7 +41,9 @@ returns-2 c =
     let g = c .before .before .before .before .before .before .before .before .before .args in
     let x = c .before .before .before .before .before .x .given in
     let o = hopAt (g .stop) (g .r) (g .p) in
-    leap-to (g .work .now) (g .g) o (x .0 .0) (c .before .before .mark .last .0) (told-to o (x .0 .0) (sym (x .1) ∙ c .before .before .before .before .before .before .before .hop .ensures)) (c .before .before .mark .ensures)
+    leap-to (g .work .now) (g .g) o (x .0 .0) (c .before .before .mark .last .0)
+    (told-to o (x .0 .0) (sym (x .1) ∙ c .before .before .before .before .before .before .before .hop .ensures))
+    (c .before .before .mark .ensures)
 
 pub leap-spec : {M : Type 1} → statement M
 leap-spec =

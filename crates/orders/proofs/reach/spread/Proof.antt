@@ -1,10 +1,8 @@
 -- `orders::reach::spread` meets its contract. The loop's invariant: what the ranks passed lead to is marked.
-use mathlib.Core.Path.{_≡_, _∙_}
-use Prim.Native.Nat.{_-_, _≤_, _<_}
+use Prim.Native.Nat.{_-_, _≤_}
 use native.Mathlib.Omega.{arith}
 use borrow.Author.Needs.{needs}
-use Rattle.orders.specs.Sets.{ranks, Gains}
-use Rattle.orders.specs.Ranks.{fact}
+use Rattle.orders.specs.Sets.{Gains}
 use Rattle.orders.proofs.Spreading.{Reach, reach-start, reach-step, reach-end}
 use Rattle.orders.proofs.reach.spread.Statement.{statement}
 use Rattle.orders.proofs.reach.spread.Tie as tie
@@ -28,8 +26,11 @@ loop-holds c =
 
 fan-from-requires : tie.Need-fan-from-requires Inv-loop μ-loop
 fan-from-requires c κs =
-    let g = c .before .before .before .before .before .before in
-    ((g .pre .0, omega (arith, g .pre .1, c .before .before .loop .inv .0 .long)), rw (← c .before .before .before .factorial .ensures .value) (c .before .loop-test .taken))
+    let g = c .before .before .before .before .before .before in (
+      (g .pre .0 .0, omega (arith, g .pre .0 .1, c .before .before .loop .inv .0 .long)),
+      rw
+          (← c .before .before .before .factorial .ensures .value) (c .before .loop-test .taken),
+    )
 
 add-r : tie.Need-add-r Inv-loop μ-loop
 add-r c = omega arith
@@ -41,8 +42,11 @@ loop-again : tie.Need-loop-again Inv-loop μ-loop
 loop-again c =
     let g = c .before .before .before .before .before .before .before .before .before .args in
     let l = c .before .before .before .before .before .loop in
-    let m = c .before .before .before .before .before .before .factorial in
-    (reach-step (g .work .now) (g .g) (g .stop) (l .r) (l .work) (c .before .before .fan-from .last .0) (omega (arith, m .ensures .most)) (l .inv .0) (c .before .before .fan-from .ensures), omega arith)
+    let m = c .before .before .before .before .before .before .factorial in (
+      reach-step (g .work .now) (g .g) (g .stop) (l .r) (l .work) (c .before .before .fan-from .last .0)
+          (omega (arith, m .ensures .most)) (l .inv .0) (c .before .before .fan-from .ensures),
+      omega arith,
+    )
 
 same-length : tie.Need-same-length Inv-loop μ-loop
 same-length c = c .before .loop .inv .0 .long
@@ -51,7 +55,8 @@ returns : tie.Need-returns Inv-loop μ-loop
 returns c =
     let g = c .before .before .before .before .before .args in
     let l = c .before .loop in
-    reach-end (g .work .now) (g .g) (g .stop) (l .r) (l .work) (omega (arith, c .before .before .factorial .ensures .value)) (l .inv .0)
+    reach-end (g .work .now) (g .g) (g .stop) (l .r) (l .work) (omega (arith, c .before .before .factorial .ensures .value))
+    (c .before .before .before .before .before .pre .1) (l .inv .0)
 
 pub spread-spec : {M : Type 1} → statement M
 spread-spec =

@@ -1,6 +1,6 @@
 -- `orders::set::bare` meets its contract. The loop's invariant: no rank passed is marked.
 use mathlib.Core.Path.{_≡_, sym, _∙_}
-use mathlib.Core.Bool.{true, false}
+use mathlib.Core.Bool.{true}
 use Prim.Native.Nat.{ℕ, _-_, _<_, _≤_}
 use native.Mathlib.Omega.{arith}
 use borrow.Author.Count.{below-more}
@@ -36,8 +36,11 @@ loop-less : tie.Need-loop-less Inv-loop μ-loop
 loop-less c = omega arith
 
 loop-again : tie.Need-loop-again Inv-loop μ-loop
-loop-again c =
-    (omega arith, below-more _ _ (c .before .before .before .loop .inv .1) (λ e. not-both (sym (c .before .is-marked .ensures) ∙ c .if1 .left) e))
+loop-again c = (
+  omega arith,
+  below-more _ _ (c .before .before .before .loop .inv .1)
+      (λ e. not-both (sym (c .before .is-marked .ensures) ∙ c .if1 .left) e),
+)
 
 returns-2 : tie.Need-returns-2 Inv-loop μ-loop
 returns-2 c = λ x h. c .before .loop .inv .1 x (omega arith)

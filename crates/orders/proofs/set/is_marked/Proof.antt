@@ -16,7 +16,8 @@ add-i c = search needs
 shared-slice-read-result : tie.Need-shared-slice-read-result
 shared-slice-read-result c =
     let g = c .before .before .before in
-    byte-inside (g .args .work .now) (g .args .g) (g .args .r) (c .before .place .result) (c .before .place .ensures) (g .pre .gap) (g .pre .rank)
+    byte-inside (g .args .work .now) (g .args .g) (g .args .r) (c .before .place .result) (c .before .place .ensures) (g .pre .gap)
+    (g .pre .rank)
 
 cast-result : tie.Need-cast-result
 cast-result c = search needs

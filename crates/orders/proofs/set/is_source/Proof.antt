@@ -1,6 +1,6 @@
 -- `orders::set::is_source` meets its contract, by the gap before the node.
-use mathlib.Core.Path.{_≡_, sym, _∙_}
-use Prim.Native.Nat.{ℕ, suc, _-_}
+use mathlib.Core.Path.{sym, _∙_}
+use Prim.Native.Nat.{_-_}
 use native.Mathlib.Omega.{arith}
 use Rattle.orders.proofs.Bits.{source-none, source-gap}
 use borrow.Author.Needs.{needs}

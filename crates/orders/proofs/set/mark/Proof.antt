@@ -1,7 +1,6 @@
 -- `orders::set::mark` meets its contract: a mark that is there stays, and one that is not is made by turning it over.
-use mathlib.Core.Path.{_≡_, sym, ap, _∙_}
-use mathlib.Core.Bool.{true, false, not}
-use Rattle.orders.specs.Sets.{marked, Set}
+use mathlib.Core.Path.{sym, _∙_}
+use mathlib.Core.Bool.{true, false}
 use Rattle.orders.proofs.Bits.{set-already, set-turned}
 use borrow.Author.Needs.{needs}
 use Rattle.orders.proofs.set.mark.Statement.{statement}
@@ -27,7 +26,8 @@ same-length-2 c = search needs
 returns-2 : tie.Need-returns-2
 returns-2 c =
     let g = c .before .before .before .before .before .before .before .before .args in
-    set-turned (g .work .now) (g .g) (g .r) false (c .before .before .turn .last .0) (c .before .before .turn .ensures) (sym (c .before .before .before .before .before .is-marked .ensures) ∙ c .before .before .before .before .if1 .left)
+    set-turned (g .work .now) (g .g) (g .r) false (c .before .before .turn .last .0) (c .before .before .turn .ensures)
+    (sym (c .before .before .before .before .before .is-marked .ensures) ∙ c .before .before .before .before .if1 .left)
 
 pub mark-spec : {M : Type 1} → statement M
 mark-spec =

@@ -1,7 +1,4 @@
 -- `orders::set::turn` meets its contract: it turns over the one bit of the rank.
-use mathlib.Core.Path.{sym}
-use Rattle.orders.specs.Sets.{ranks, address, marked, Set}
-use mathlib.Core.Bool.{not}
 use Rattle.orders.proofs.Bits.{byte-inside, turned-at, turn-set}
 use borrow.Author.Needs.{needs}
 use Rattle.orders.proofs.set.turn.Statement.{statement}
@@ -25,12 +22,14 @@ shl-bit c = search needs
 slice-read-work : tie.Need-slice-read-work
 slice-read-work c =
     let g = c .before .before .before in
-    byte-inside (g .args .work .now) (g .args .g) (g .args .r) (c .before .place .result) (c .before .place .ensures) (g .pre .gap) (g .pre .rank)
+    byte-inside (g .args .work .now) (g .args .g) (g .args .r) (c .before .place .result) (c .before .place .ensures) (g .pre .gap)
+    (g .pre .rank)
 
 slice-write-work : tie.Need-slice-write-work
 slice-write-work c =
     let g = c .before .before .before in
-    byte-inside (g .args .work .now) (g .args .g) (g .args .r) (c .before .place .result) (c .before .place .ensures) (g .pre .gap) (g .pre .rank)
+    byte-inside (g .args .work .now) (g .args .g) (g .args .r) (c .before .place .result) (c .before .place .ensures) (g .pre .gap)
+    (g .pre .rank)
 
 same-length : tie.Need-same-length
 same-length c = search needs

@@ -1,5 +1,5 @@
 -- `orders::set::unmark` meets its contract: a mark that is there is turned over.
-use mathlib.Core.Path.{_≡_, sym, _∙_}
+use mathlib.Core.Path.{sym, _∙_}
 use mathlib.Core.Bool.{true, false}
 use Rattle.orders.proofs.Bits.{set-already, set-turned}
 use borrow.Author.Needs.{needs}
@@ -18,7 +18,8 @@ same-length c = search needs
 returns : tie.Need-returns
 returns c =
     let g = c .before .before .before .before .before .before .before .before .args in
-    set-turned (g .work .now) (g .g) (g .r) true (c .before .before .turn .last .0) (c .before .before .turn .ensures) (sym (c .before .before .before .before .before .is-marked .ensures) ∙ c .before .before .before .before .if1 .taken)
+    set-turned (g .work .now) (g .g) (g .r) true (c .before .before .turn .last .0) (c .before .before .turn .ensures)
+    (sym (c .before .before .before .before .before .is-marked .ensures) ∙ c .before .before .before .before .if1 .taken)
 
 same-length-2 : tie.Need-same-length-2
 same-length-2 c = search needs
