@@ -1,0 +1,218 @@
+-- The film of legal entries is a trace: its gaps are moves that cross nobody, and its nodes touch the wire next to the axis.
+use mathlib.Core.Path.{_≡_, refl, sym, ap, ap₂, _∙_, subst}
+use mathlib.Core.Bool.{Bool, true, false}
+use mathlib.Core.List.{List, [], _∷_, _++_, map, List·Memᴰ}
+use mathlib.Core.Logic.{_≢_, _⊎_, inl, inr}
+use Prim.Native.Nat.{ℕ, zero, suc, _+_, _-_, _*_, _≤_, _<_, min, max}
+use native.Mathlib.Nat.{eq-zero-or-pos}
+use native.Mathlib.Omega.{arith}
+use lib.ListN.{length, getD, length-map}
+use lib.Dec.{eqb}
+use borrow.Author.Tests.{eqb-true, eqb-false}
+use Rattle.rules.specs.Basic.{put, cut}
+use Rattle.rules.specs.Row.{Kind, B, M, E, node}
+use Rattle.rules.specs.Street.{counted, next}
+use Rattle.rules.specs.Sheet.{kindIn, Entry, entry, begun, labelled, labels}
+use Rattle.rules.specs.Judgement.{left}
+use Rattle.rules.specs.Film.{Rec, Wire, axis, upper, heightAt, target, ran, wall, climb, sink, gap, opened, closed, ending, draw}
+use Rattle.rules.proofs.Fits.{Fits}
+use Rattle.rules.proofs.Lists.{length-put, length-cut, cut-put}
+use Rattle.rules.proofs.Open.{one, one-same, one-other, times}
+use Rattle.rules.proofs.Renamed.{map-put, map-cut}
+use Rattle.rules.proofs.Legal.{Legal, done, then}
+use Rattle.rules.proofs.GivenBack.{times-at, times-begin, times-end, one-pos, then-order, length-then, gone}
+use Rattle.wires.proofs.Among.{All, nil, cons, all-map, more-put, more-cut}
+use Rattle.wires.proofs.Gap.{Aside, Clear, Falling, Falls, bare, Reached, no-wire, wire, Moves, gap-moves, gap-reached, gap-nets, gap-column}
+use Rattle.wires.proofs.Trace.{Track, Trace, stop, begin, meet, end, moves-then}
+use Rattle.wires.proofs.Steps.{nets}
+use Rattle.wires.proofs.Heights.{Laid, Settled, settled, settled-falling, reached-at, reached-others, falling-cut, position-falls, position-track, stub-clear, target-falls, target-track}
+
+getD-put : (k : ℕ) (w d : Wire) (o : List Wire) → k ≤ length o → getD (put k w o) k d ≡ w
+unfolding put
+getD-put zero w d o h = refl
+getD-put (suc k) w d [] h = absurd (omega arith)
+getD-put (suc k) w d (v ∷ o) h = getD-put k w d o (omega arith)
+
+net-at : (ws : List Wire) (a : ℕ) (d : Wire) → a < length ws → getD (nets ws) a 0 ≡ getD ws a d .net
+net-at [] a d h = absurd (omega arith)
+net-at (w ∷ ws) zero d h = refl
+net-at (w ∷ ws) (suc a) d h = net-at ws a d (omega arith)
+
+length-nets : (ws : List Wire) → length (nets ws) ≡ length ws
+length-nets ws = length-map ws (λ w. w .net)
+
+-- the nets of the open wires: each once, and of the n that have begun
+pub record Begun (n : ℕ) (o : List ℕ) : Type 0 where
+  pub once : (x : ℕ) → times x o ≤ 1
+  pub low : (x : ℕ) → 0 < times x o → x < n
+
+-- a net that has not begun is no open wire's
+fresh : (n : ℕ) (ws : List Wire) → ((x : ℕ) → 0 < times x (nets ws) → x < n) → All (λ v. v .net ≢ n) ws
+unfolding times
+fresh n [] h = nil
+fresh n (w ∷ ws) h =
+    cons (λ (e : w .net ≡ n). omega (arith, h (w .net) (omega (arith, one-same (w .net))))) (fresh n ws (λ x t. h x (omega arith)))
+
+unless : (t : Bool) → one t ≤ 1
+unfolding one
+unless true = omega arith
+unless false = omega arith
+
+begun-next : (k : Kind) (a n : ℕ) (o : List ℕ) → a < counted k (length o) → Begun n o → Begun (begun k n) (then-order k a n o)
+unfolding counted begun next
+begun-next B a n o h b = record { once = λ x. once x (eq-zero-or-pos (times x o)); low = λ x t. low x t (eq-zero-or-pos (times x o)) }
+  where
+    once : (x : ℕ) → (times x o ≡ 0) ⊎ (0 < times x o) → times x (then-order B a n o) ≤ 1
+    once x (inl z) = omega (arith, times-begin x a n o, unless (eqb n x))
+    once x (inr t) =
+        let l : x < n = b .low x t in
+        omega (arith, times-begin x a n o, one-other x n (λ (e : n ≡ x). omega arith), b .once x)
+
+    low : (x : ℕ) → 0 < times x (then-order B a n o) → (times x o ≡ 0) ⊎ (0 < times x o) → x < suc n
+    low x t (inl z) = let e : n ≡ x = one-pos x n (omega (arith, times-begin x a n o)) in omega arith
+    low x t (inr q) = omega (arith, b .low x q)
+begun-next M a n o h b = b
+begun-next E a n o h b =
+    record { once = λ x. omega (arith, times-end x a n o h, b .once x); low = λ x t. b .low x (omega (arith, times-end x a n o h)) }
+
+-- ---- a node
+
+length-opened : (k : Kind) (n h x a : ℕ) (ws : List Wire) → length (opened k n h x a ws) ≡ counted k (length ws)
+unfolding opened counted
+length-opened B n h x a ws = length-put a (record { net = n; height = h; since = x }) ws
+length-opened M n h x a ws = refl
+length-opened E n h x a ws = refl
+
+-- the other wires at a node are clear of its stub
+others-clear : {ku kl u a c : ℕ} {vs : List Wire} → Laid ku kl u a c → length vs ≡ c → Settled u 0 vs → All (Aside axis (heightAt u (suc a))) (cut a vs)
+others-clear {u = u} {a} laid e s =
+    reached-others (Clear axis (heightAt u (suc a))) s a (λ i l h d. stub-clear laid (suc i) (omega arith) (omega arith) (λ (z : suc i ≡ suc a). d (omega arith)))
+
+-- the touched wire of a net that was open: its label, and that the others are clear
+touched : {ku kl u a : ℕ} (k : Kind) (x n : ℕ) (ws : List Wire) → Laid ku kl u a (counted k (length ws)) → Reached (target k u a) 0 ws → a < length ws
+    → opened k n (heightAt u (suc a)) x a ws ≡ ws → counted k (length ws) ≡ length ws
+    → (getD (nets ws) a 0 ≡ getD ws a (record { net = n; height = axis; since = x }) .net)
+    × All (Aside axis (getD ws a (record { net = n; height = axis; since = x }) .height)) (cut a ws)
+touched {u = u} {a} k x n ws laid r h o c =
+    let d : Wire = record { net = n; height = axis; since = x } in
+    let s : Settled u 0 ws = subst (λ vs. Settled u 0 vs) o (settled k u a n x ws (omega arith) r) in
+    let e : getD ws a d .height ≡ heightAt u (suc a) = reached-at s a d h ∙ ap (heightAt u) (omega arith) in
+    (net-at ws a d h, subst (λ x. All (Aside axis x) (cut a ws)) (sym e) (others-clear laid (sym c) s))
+
+relabel : {pitch ku kl i y x x′ : ℕ} {ws : List Wire} {row : List ℕ} {film : List Rec} → x ≡ x′
+    → Trace pitch ku kl i y ws (x ∷ row) film → Trace pitch ku kl i y ws (x′ ∷ row) film
+relabel {pitch} {ku} {kl} {i} {y} {ws = ws} {row} {film} e t = subst (λ x. Trace pitch ku kl i y ws (x ∷ row) film) e t
+
+module _ {pitch ku kl u a : ℕ} where
+  node-trace : (k : Kind) (i n y : ℕ) (ws : List Wire) {row : List ℕ} {film : List Rec} → Laid ku kl u a (counted k (length ws)) → Reached (target k u a) 0 ws
+      → y ≤ pitch * i → Begun n (nets ws) → (k ≡ E → times (getD (nets ws) a 0) row ≡ 0)
+      → Trace pitch ku kl (suc i) (suc (pitch * i)) (closed k a (opened k n (heightAt u (suc a)) (pitch * i) a ws)) row film
+      → Trace pitch ku kl i y ws (labelled k a n (nets ws) ∷ row)
+      (wall (pitch * i) axis (getD (opened k n (heightAt u (suc a)) (pitch * i) a ws) a (record { net = n; height = axis; since = pitch * i }))
+      ∷ ending k (pitch * i) (getD (opened k n (heightAt u (suc a)) (pitch * i) a ws) a (record { net = n; height = axis; since = pitch * i })) ++ film)
+  unfolding closed opened labelled ending counted
+  node-trace B i n y ws laid r l b z t =
+      let w : Wire = record { net = n; height = heightAt u (suc a); since = pitch * i } in
+      let d : Wire = record { net = n; height = axis; since = pitch * i } in
+      let h : a ≤ length ws = omega (arith, laid .fits .high) in
+      let c : All (Aside axis (heightAt u (suc a))) ws =
+      subst (λ vs. All (Aside axis (heightAt u (suc a))) vs) (cut-put a w ws h) (others-clear laid (length-put a w ws) (settled B u a n (pitch * i) ws (omega arith) r)) in
+      rw (getD-put a w d ws h) (begin l refl (position-track laid (suc a) (omega arith) (laid .fits .high)) (more-put a w ws) c (fresh n ws (b .low)) t)
+  node-trace M i n y ws {row} {film} laid r l b z t =
+      let d : Wire = record { net = n; height = axis; since = pitch * i } in
+      let s = touched M (pitch * i) n ws laid r (omega (arith, laid .fits .high)) refl refl in
+      relabel (sym (s .0))
+      (meet l (more-cut a ws d (omega (arith, laid .fits .high))) (s .1) t)
+  node-trace E i n y ws {row} {film} laid r l b z t =
+      let d : Wire = record { net = n; height = axis; since = pitch * i } in
+      let s = touched E (pitch * i) n ws laid r (omega (arith, laid .fits .high)) refl refl in
+      relabel (sym (s .0))
+      (end l (more-cut a ws d (omega (arith, laid .fits .high))) (s .1) (subst (λ x. times x row ≡ 0) (s .0) (z refl)) t)
+
+  -- the same, with the order of their nets
+  named-trace : (k : Kind) (i n y : ℕ) (ws : List Wire) {row : List ℕ} {film : List Rec} (o : List ℕ) → nets ws ≡ o
+      → Laid ku kl u a (counted k (length ws)) → Reached (target k u a) 0 ws → y ≤ pitch * i → Begun n o → (k ≡ E → times (getD o a 0) row ≡ 0)
+      → Trace pitch ku kl (suc i) (suc (pitch * i)) (closed k a (opened k n (heightAt u (suc a)) (pitch * i) a ws)) row film
+      → Trace pitch ku kl i y ws (labelled k a n o ∷ row)
+      (wall (pitch * i) axis (getD (opened k n (heightAt u (suc a)) (pitch * i) a ws) a (record { net = n; height = axis; since = pitch * i }))
+      ∷ ending k (pitch * i) (getD (opened k n (heightAt u (suc a)) (pitch * i) a ws) a (record { net = n; height = axis; since = pitch * i })) ++ film)
+  named-trace k i n y ws {row} o e laid r l b z t =
+      relabel (ap (labelled k a n) e)
+      (node-trace k i n y ws laid r l (subst (Begun n) (sym e) b) (λ q. subst (λ p. times (getD p a 0) row ≡ 0) (sym e) (z q)) t)
+
+-- ---- entries
+
+closed-nets : (k : Kind) (a n h x : ℕ) (ws : List Wire) → nets (closed k a (opened k n h x a ws)) ≡ then-order k a n (nets ws)
+unfolding closed opened next
+closed-nets B a n h x ws = map-put (λ w. w .net) a (record { net = n; height = h; since = x }) ws ∙ ap (λ k. put k n (nets ws)) (omega arith)
+closed-nets M a n h x ws = refl
+closed-nets E a n h x ws = map-cut (λ w. w .net) a ws ∙ ap (λ k. cut k (nets ws)) (omega arith)
+
+closed-falling : (k : Kind) (a : ℕ) (ws : List Wire) → Falling ws → Falling (closed k a ws)
+unfolding closed
+closed-falling B a ws f = f
+closed-falling M a ws f = f
+closed-falling E a ws f = falling-cut a f
+
+ended : (k : Kind) (a n : ℕ) (o : List ℕ) → a < counted k (length o) → Begun n o → k ≡ E → (times (getD o a 0) (then-order k a n o) ≡ 0) × (getD o a 0 < begun k n)
+unfolding counted begun
+ended B a n o h b e = let z : _≡_ {A = ℕ} 0 1 = cc in absurd (omega arith)
+ended M a n o h b e = let z : _≡_ {A = ℕ} 0 1 = cc in absurd (omega arith)
+ended E a n o h b e =
+    (omega (arith, times-end (getD o a 0) a n o h, one-same (getD o a 0), b .once (getD o a 0)), b .low (getD o a 0) (times-at o a h))
+
+counted-le : (k : Kind) (b : ℕ) → b ≤ counted k b
+unfolding counted
+counted-le B b = omega arith
+counted-le M b = omega arith
+counted-le E b = omega arith
+
+-- the first free column from node i on
+unfoldable pub from : (pitch i : ℕ) → ℕ
+from pitch zero = 0
+from pitch (suc i) = suc (pitch * i)
+
+module _ (pitch ku kl : ℕ) (wide : ku + kl < pitch) (deep : kl ≤ axis) (law : (a : ℕ) → a ≤ ku → upper ku (suc a) ≡ min (suc a) ku) where
+  -- the moves of the gap before node i
+  gap-first : (t : ℕ → ℕ) (i : ℕ) (ws : List Wire) {row : List ℕ} {film : List Rec} → (i ≡ 0 → ws ≡ []) → length ws < pitch → Falling ws
+      → Falls t 0 (length ws) → ((j : ℕ) → 0 ≤ j → j < 0 + length ws → Track ku kl (t j))
+      → ((y : ℕ) → y ≤ pitch * i → Trace pitch ku kl i y (gap t (pitch * (i - 1)) ws .wires) row film)
+      → Trace pitch ku kl i (from pitch i) ws row (gap t (pitch * (i - 1)) ws .film ++ film)
+  unfolding from gap climb sink
+  gap-first t zero [] e h f g p k = k 0 (omega arith)
+  gap-first t zero (w ∷ ws) e h f g p k = let q : w ∷ ws ≡ [] = e refl in let z : _≡_ {A = ℕ} 0 1 = cc in absurd (omega arith)
+  gap-first t (suc i) ws e h f g p k =
+      let q : suc i - 1 ≡ i = omega arith in
+      let y : ℕ = gap t (pitch * i) ws .column in
+      rw q (moves-then (gap-moves t (pitch * i) ws f g p) (rw q at (k y (omega (arith, gap-column t (pitch * i) ws)))))
+
+  pub draw-trace : {b : ℕ} {es : List Entry} → Legal ku kl b es → (i n : ℕ) (ws : List Wire) → length ws ≡ b → (i ≡ 0 → ws ≡ []) → Falling ws → Begun n (nets ws)
+      → Trace pitch ku kl i (from pitch i) ws (labels n (nets ws) es) (draw pitch ku i n ws es)
+  unfolding labels draw from
+  draw-trace done i n [] e s f b = stop
+  draw-trace done i n (w ∷ ws) e s f b = absurd (omega arith)
+  draw-trace (then {b} {f} {a} {es} f≢ h l) i n ws e s fall beg =
+      let k : Kind = kindIn f in
+      let u : ℕ = upper ku (suc a) in
+      let x : ℕ = pitch * (i - 1) in
+      let t : ℕ → ℕ = target k u a in
+      let ws′ : List Wire = gap t x ws .wires in
+      let vs : List Wire = opened k n (heightAt u (suc a)) (pitch * i) a ws′ in
+      let n≡ : nets ws′ ≡ nets ws = gap-nets t x ws in
+      let l≡ : length ws′ ≡ b = sym (length-nets ws′) ∙ ap length n≡ ∙ length-nets ws ∙ e in
+      let laid : Laid ku kl u a (counted k b) = record { law = law a (omega (arith, h .upper)); fits = h; deep = deep } in
+      let r : Reached t 0 ws′ = gap-reached t x ws in
+      let sv : Settled u 0 vs = settled k u a n (pitch * i) ws′ (rw l≡ (h .high)) r in
+      let lv : length vs ≡ counted k b = length-opened k n (heightAt u (suc a)) (pitch * i) a ws′ ∙ ap (counted k) l≡ in
+      let fv : Falling vs = settled-falling sv (λ i j p q m. position-falls laid (suc i) (suc j) (omega arith) (omega arith)) in
+      let go : a < counted k (length (nets ws)) = rw (length-nets ws, e) (h .high) in
+      let no : nets (closed k a vs) ≡ then-order k a n (nets ws) = closed-nets k a n (heightAt u (suc a)) (pitch * i) ws′ ∙ ap (then-order k a n) n≡ in
+      let lo : length (then-order k a n (nets ws)) ≡ left k b = length-then k a n (nets ws) go ∙ ap (left k) (length-nets ws ∙ e) in
+      let ih : Trace pitch ku kl (suc i) (suc (pitch * i)) (closed k a vs) (labels (begun k n) (nets (closed k a vs)) es)
+      (draw pitch ku (suc i) (begun k n) (closed k a vs) es) =
+      draw-trace l (suc i) (begun k n) (closed k a vs) (sym (length-nets (closed k a vs)) ∙ ap length no ∙ lo) (λ (z : suc i ≡ 0). absurd (omega arith))
+      (closed-falling k a vs fv) (rw no (begun-next k a n (nets ws) go beg)) in
+      gap-first t i ws s (omega (arith, h .sum, counted-le k b)) fall (rw e (target-falls b k laid)) (rw e (target-track b k laid))
+      (λ y hy. named-trace k i n y ws′ (nets ws) n≡ (rw l≡ laid) r hy beg
+      (λ q. let z = ended k a n (nets ws) go beg q in gone ku kl l (begun k n) (then-order k a n (nets ws)) lo (getD (nets ws) a 0) (z .0) (z .1))
+      (rw no at ih))
