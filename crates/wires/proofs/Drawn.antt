@@ -1,5 +1,5 @@
 -- The film of legal entries is a trace: its gaps are moves that cross nobody, and its nodes touch the wire next to the axis.
-use mathlib.Core.Path.{_≡_, refl, sym, ap, ap₂, _∙_, subst}
+use mathlib.Core.Path.{_≡_, refl, sym, ap, ap₂, _∙_, subst, subst₂}
 use mathlib.Core.Bool.{Bool, true, false}
 use mathlib.Core.List.{List, [], _∷_, _++_, map, List·Memᴰ}
 use mathlib.Core.Logic.{_≢_, _⊎_, inl, inr}
@@ -21,6 +21,7 @@ use Rattle.rules.proofs.Open.{one, one-same, one-other, times}
 use Rattle.rules.proofs.Renamed.{map-put, map-cut}
 use Rattle.rules.proofs.Legal.{Legal, done, then}
 use Rattle.rules.proofs.GivenBack.{times-at, times-begin, times-end, one-pos, then-order, length-then, gone}
+use Rattle.wires.specs.Levels.{own}
 use Rattle.wires.proofs.Among.{All, nil, cons, all-map, more-put, more-cut}
 use Rattle.wires.proofs.Gap.{Aside, Clear, Falling, Falls, bare, Reached, no-wire, wire, Moves, gap-moves, gap-reached, gap-nets, gap-column}
 use Rattle.wires.proofs.Trace.{Track, Trace, stop, begin, meet, end, moves-then}
@@ -93,21 +94,22 @@ touched : {ku kl u a : ℕ} (k : Kind) (x n : ℕ) (ws : List Wire) → Laid ku 
     → opened k n (heightAt u (suc a)) x a ws ≡ ws → counted k (length ws) ≡ length ws
     → (getD (nets ws) a 0 ≡ getD ws a (record { net = n; height = axis; since = x }) .net)
     × All (Aside axis (getD ws a (record { net = n; height = axis; since = x }) .height)) (cut a ws)
+    × (getD ws a (record { net = n; height = axis; since = x }) .height ≡ heightAt u (suc a))
 touched {u = u} {a} k x n ws laid r h o c =
     let d : Wire = record { net = n; height = axis; since = x } in
     let s : Settled u 0 ws = subst (λ vs. Settled u 0 vs) o (settled k u a n x ws (omega arith) r) in
     let e : getD ws a d .height ≡ heightAt u (suc a) = reached-at s a d h ∙ ap (heightAt u) (omega arith) in
-    (net-at ws a d h, subst (λ x. All (Aside axis x) (cut a ws)) (sym e) (others-clear laid (sym c) s))
+    (net-at ws a d h, subst (λ x. All (Aside axis x) (cut a ws)) (sym e) (others-clear laid (sym c) s), e)
 
-relabel : {pitch ku kl i y x x′ : ℕ} {ws : List Wire} {row : List ℕ} {film : List Rec} → x ≡ x′
-    → Trace pitch ku kl i y ws (x ∷ row) film → Trace pitch ku kl i y ws (x′ ∷ row) film
-relabel {pitch} {ku} {kl} {i} {y} {ws = ws} {row} {film} e t = subst (λ x. Trace pitch ku kl i y ws (x ∷ row) film) e t
+relabel : {pitch ku kl i y x x′ h h′ : ℕ} {ws : List Wire} {row hs : List ℕ} {film : List Rec} → x ≡ x′ → h ≡ h′
+    → Trace pitch ku kl i y ws (x ∷ row) (h ∷ hs) film → Trace pitch ku kl i y ws (x′ ∷ row) (h′ ∷ hs) film
+relabel {pitch} {ku} {kl} {i} {y} {ws = ws} {row} {hs} {film} e e′ t = subst₂ (λ x h. Trace pitch ku kl i y ws (x ∷ row) (h ∷ hs) film) e e′ t
 
 module _ {pitch ku kl u a : ℕ} where
-  node-trace : (k : Kind) (i n y : ℕ) (ws : List Wire) {row : List ℕ} {film : List Rec} → Laid ku kl u a (counted k (length ws)) → Reached (target k u a) 0 ws
+  node-trace : (k : Kind) (i n y : ℕ) (ws : List Wire) {row hs : List ℕ} {film : List Rec} → Laid ku kl u a (counted k (length ws)) → Reached (target k u a) 0 ws
       → y ≤ pitch * i → Begun n (nets ws) → (k ≡ E → times (getD (nets ws) a 0) row ≡ 0)
-      → Trace pitch ku kl (suc i) (suc (pitch * i)) (closed k a (opened k n (heightAt u (suc a)) (pitch * i) a ws)) row film
-      → Trace pitch ku kl i y ws (labelled k a n (nets ws) ∷ row)
+      → Trace pitch ku kl (suc i) (suc (pitch * i)) (closed k a (opened k n (heightAt u (suc a)) (pitch * i) a ws)) row hs film
+      → Trace pitch ku kl i y ws (labelled k a n (nets ws) ∷ row) (heightAt u (suc a) ∷ hs)
       (wall (pitch * i) axis (getD (opened k n (heightAt u (suc a)) (pitch * i) a ws) a (record { net = n; height = axis; since = pitch * i }))
       ∷ ending k (pitch * i) (getD (opened k n (heightAt u (suc a)) (pitch * i) a ws) a (record { net = n; height = axis; since = pitch * i })) ++ film)
   unfolding closed opened labelled ending counted
@@ -121,23 +123,23 @@ module _ {pitch ku kl u a : ℕ} where
   node-trace M i n y ws {row} {film} laid r l b z t =
       let d : Wire = record { net = n; height = axis; since = pitch * i } in
       let s = touched M (pitch * i) n ws laid r (omega (arith, laid .fits .high)) refl refl in
-      relabel (sym (s .0))
+      relabel (sym (s .0)) (s .2)
       (meet l (more-cut a ws d (omega (arith, laid .fits .high))) (s .1) t)
   node-trace E i n y ws {row} {film} laid r l b z t =
       let d : Wire = record { net = n; height = axis; since = pitch * i } in
       let s = touched E (pitch * i) n ws laid r (omega (arith, laid .fits .high)) refl refl in
-      relabel (sym (s .0))
+      relabel (sym (s .0)) (s .2)
       (end l (more-cut a ws d (omega (arith, laid .fits .high))) (s .1) (subst (λ x. times x row ≡ 0) (s .0) (z refl)) t)
 
   -- the same, with the order of their nets
-  named-trace : (k : Kind) (i n y : ℕ) (ws : List Wire) {row : List ℕ} {film : List Rec} (o : List ℕ) → nets ws ≡ o
+  named-trace : (k : Kind) (i n y : ℕ) (ws : List Wire) {row hs : List ℕ} {film : List Rec} (o : List ℕ) → nets ws ≡ o
       → Laid ku kl u a (counted k (length ws)) → Reached (target k u a) 0 ws → y ≤ pitch * i → Begun n o → (k ≡ E → times (getD o a 0) row ≡ 0)
-      → Trace pitch ku kl (suc i) (suc (pitch * i)) (closed k a (opened k n (heightAt u (suc a)) (pitch * i) a ws)) row film
-      → Trace pitch ku kl i y ws (labelled k a n o ∷ row)
+      → Trace pitch ku kl (suc i) (suc (pitch * i)) (closed k a (opened k n (heightAt u (suc a)) (pitch * i) a ws)) row hs film
+      → Trace pitch ku kl i y ws (labelled k a n o ∷ row) (heightAt u (suc a) ∷ hs)
       (wall (pitch * i) axis (getD (opened k n (heightAt u (suc a)) (pitch * i) a ws) a (record { net = n; height = axis; since = pitch * i }))
       ∷ ending k (pitch * i) (getD (opened k n (heightAt u (suc a)) (pitch * i) a ws) a (record { net = n; height = axis; since = pitch * i })) ++ film)
   named-trace k i n y ws {row} o e laid r l b z t =
-      relabel (ap (labelled k a n) e)
+      relabel (ap (labelled k a n) e) refl
       (node-trace k i n y ws laid r l (subst (Begun n) (sym e) b) (λ q. subst (λ p. times (getD p a 0) row ≡ 0) (sym e) (z q)) t)
 
 -- ---- entries
@@ -174,10 +176,10 @@ from pitch (suc i) = suc (pitch * i)
 
 module _ (pitch ku kl : ℕ) (wide : ku + kl < pitch) (deep : kl ≤ axis) (law : (a : ℕ) → a ≤ ku → upper ku (suc a) ≡ min (suc a) ku) where
   -- the moves of the gap before node i
-  gap-first : (t : ℕ → ℕ) (i : ℕ) (ws : List Wire) {row : List ℕ} {film : List Rec} → (i ≡ 0 → ws ≡ []) → length ws < pitch → Falling ws
+  gap-first : (t : ℕ → ℕ) (i : ℕ) (ws : List Wire) {row hs : List ℕ} {film : List Rec} → (i ≡ 0 → ws ≡ []) → length ws < pitch → Falling ws
       → Falls t 0 (length ws) → ((j : ℕ) → 0 ≤ j → j < 0 + length ws → Track ku kl (t j))
-      → ((y : ℕ) → y ≤ pitch * i → Trace pitch ku kl i y (gap t (pitch * (i - 1)) ws .wires) row film)
-      → Trace pitch ku kl i (from pitch i) ws row (gap t (pitch * (i - 1)) ws .film ++ film)
+      → ((y : ℕ) → y ≤ pitch * i → Trace pitch ku kl i y (gap t (pitch * (i - 1)) ws .wires) row hs film)
+      → Trace pitch ku kl i (from pitch i) ws row hs (gap t (pitch * (i - 1)) ws .film ++ film)
   unfolding from gap climb sink
   gap-first t zero [] e h f g p k = k 0 (omega arith)
   gap-first t zero (w ∷ ws) e h f g p k = let q : w ∷ ws ≡ [] = e refl in let z : _≡_ {A = ℕ} 0 1 = cc in absurd (omega arith)
@@ -187,8 +189,8 @@ module _ (pitch ku kl : ℕ) (wide : ku + kl < pitch) (deep : kl ≤ axis) (law 
       rw q (moves-then (gap-moves t (pitch * i) ws f g p) (rw q at (k y (omega (arith, gap-column t (pitch * i) ws)))))
 
   pub draw-trace : {b : ℕ} {es : List Entry} → Legal ku kl b es → (i n : ℕ) (ws : List Wire) → length ws ≡ b → (i ≡ 0 → ws ≡ []) → Falling ws → Begun n (nets ws)
-      → Trace pitch ku kl i (from pitch i) ws (labels n (nets ws) es) (draw pitch ku i n ws es)
-  unfolding labels draw from
+      → Trace pitch ku kl i (from pitch i) ws (labels n (nets ws) es) (own ku es) (draw pitch ku i n ws es)
+  unfolding labels draw from own
   draw-trace done i n [] e s f b = stop
   draw-trace done i n (w ∷ ws) e s f b = absurd (omega arith)
   draw-trace (then {b} {f} {a} {es} f≢ h l) i n ws e s fall beg =
@@ -208,7 +210,7 @@ module _ (pitch ku kl : ℕ) (wide : ku + kl < pitch) (deep : kl ≤ axis) (law 
       let go : a < counted k (length (nets ws)) = rw (length-nets ws, e) (h .high) in
       let no : nets (closed k a vs) ≡ then-order k a n (nets ws) = closed-nets k a n (heightAt u (suc a)) (pitch * i) ws′ ∙ ap (then-order k a n) n≡ in
       let lo : length (then-order k a n (nets ws)) ≡ left k b = length-then k a n (nets ws) go ∙ ap (left k) (length-nets ws ∙ e) in
-      let ih : Trace pitch ku kl (suc i) (suc (pitch * i)) (closed k a vs) (labels (begun k n) (nets (closed k a vs)) es)
+      let ih : Trace pitch ku kl (suc i) (suc (pitch * i)) (closed k a vs) (labels (begun k n) (nets (closed k a vs)) es) (own ku es)
       (draw pitch ku (suc i) (begun k n) (closed k a vs) es) =
       draw-trace l (suc i) (begun k n) (closed k a vs) (sym (length-nets (closed k a vs)) ∙ ap length no ∙ lo) (λ (z : suc i ≡ 0). absurd (omega arith))
       (closed-falling k a vs fv) (rw no (begun-next k a n (nets ws) go beg)) in

@@ -67,7 +67,7 @@ module _ {P : ℕ → Type 0} where
 module _ (t : ℕ → ℕ) where
   -- ---- up-movers
 
-  climb-nets : (q x : ℕ) (ws : List Wire) → map (λ w. w .net) (climb t q x ws .wires) ≡ map (λ w. w .net) ws
+  pub climb-nets : (q x : ℕ) (ws : List Wire) → map (λ w. w .net) (climb t q x ws .wires) ≡ map (λ w. w .net) ws
   unfolding climb bent pick
   climb-nets q x [] = refl
   climb-nets q x (w ∷ ws) = step (ltb (w .height) (t q)) (climb-nets (suc q) (suc x) ws) (climb-nets (suc q) x ws)

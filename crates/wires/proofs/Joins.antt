@@ -31,7 +31,7 @@ pub record Fine (ku kl x : ℕ) (ws : List Wire) : Type 0 where
 fine : {ku kl x y : ℕ} {ws vs : List Wire} {recs : List Rec} → Event ku kl x y ws recs vs → Fine ku kl x ws → Fine ku kl (suc y) vs
 fine e f = record { good = e .good (f .good); once = λ m. e .once m (f .once m) }
 
-in-nets : {v : Wire} {ws : List Wire} → List·Memᴰ v ws → 0 < times (v .net) (nets ws)
+pub in-nets : {v : Wire} {ws : List Wire} → List·Memᴰ v ws → 0 < times (v .net) (nets ws)
 unfolding times
 in-nets {v} (List·Memᴰ·head {x} e) = rw (ap (λ u. u .net) e) (omega (arith, one-same (x .net)))
 in-nets (List·Memᴰ·tail d) = omega (arith, in-nets d)
@@ -81,7 +81,7 @@ gone row j w h z e = omega (arith, rw e at (times-at row j h))
 
 module _ {pitch ku kl : ℕ} where
   -- the run of an open wire ends at some column
-  run-ends : {i x : ℕ} {ws : List Wire} {row : List ℕ} {film : List Rec} → Trace pitch ku kl i x ws row film → (v : Wire) → List·Memᴰ v ws
+  run-ends : {i x : ℕ} {ws : List Wire} {row hs : List ℕ} {film : List Rec} → Trace pitch ku kl i x ws row hs film → (v : Wire) → List·Memᴰ v ws
       → (c : ℕ) × (x ≤ c) × List·Memᴰ (ran c v) film
   run-ends stop v d = absurd (List·Memᴰ·not-nil d)
   run-ends (turn {y = y} l t n m m′ a r) v d =
@@ -96,7 +96,7 @@ module _ {pitch ku kl : ℕ} where
       d
 
   -- an open run is joined to every later pin of its net
-  onward : {i x : ℕ} {ws : List Wire} {row : List ℕ} {film : List Rec} → Trace pitch ku kl i x ws row film → Fine ku kl x ws → (v : Wire) → List·Memᴰ v ws
+  onward : {i x : ℕ} {ws : List Wire} {row hs : List ℕ} {film : List Rec} → Trace pitch ku kl i x ws row hs film → Fine ku kl x ws → (v : Wire) → List·Memᴰ v ws
       → (j k : ℕ) → k ≡ i + j → j < length row → getD row j 0 ≡ v .net → Linked (v .net) film (v .since) (v .height) (pitch * k) axis
   unfolding bent
   onward stop f v d j k q h e = absurd (List·Memᴰ·not-nil d)
@@ -139,7 +139,7 @@ module _ {pitch ku kl : ℕ} where
       d
 
   -- all pins of a net are joined
-  pub joins : {i x : ℕ} {ws : List Wire} {row : List ℕ} {film : List Rec} → Trace pitch ku kl i x ws row film → Fine ku kl x ws
+  pub joins : {i x : ℕ} {ws : List Wire} {row hs : List ℕ} {film : List Rec} → Trace pitch ku kl i x ws row hs film → Fine ku kl x ws
       → (net j k j′ k′ : ℕ) → k ≡ i + j → k′ ≡ i + j′ → j < length row → j′ < length row → getD row j 0 ≡ net → getD row j′ 0 ≡ net
       → Linked net film (pitch * k) axis (pitch * k′) axis
   joins stop f = λ net j k j′ k′ q q′ h h′ e e′. absurd (omega arith)
@@ -170,13 +170,13 @@ module _ {pitch ku kl : ℕ} where
       (λ net j k j′ k′ q q′ h h′ e e′. linked-in (λ r i. List·Memᴰ·tail (List·Memᴰ·tail i)) (joins r f′ net j k j′ k′ q q′ h h′ e e′))
 
   -- each pin has its stub
-  pub stub : {i x : ℕ} {ws : List Wire} {row : List ℕ} {film : List Rec} → Trace pitch ku kl i x ws row film → (j k : ℕ) → k ≡ i + j → j < length row
-      → (w : Wire) × List·Memᴰ (wall (pitch * k) axis w) film × (w .net ≡ getD row j 0)
+  pub stub : {i x : ℕ} {ws : List Wire} {row hs : List ℕ} {film : List Rec} → Trace pitch ku kl i x ws row hs film → (j k : ℕ) → k ≡ i + j → j < length row
+      → (w : Wire) × List·Memᴰ (wall (pitch * k) axis w) film × (w .net ≡ getD row j 0) × (w .height ≡ getD hs j axis)
   stub stop j k q h = absurd (omega arith)
-  stub (turn l t n m m′ a r) j k q h = let s = stub r j k q h in (s .0, List·Memᴰ·tail (List·Memᴰ·tail (s .1)), s .2)
-  stub (begin {i} {w = w} l s t m a u r) zero k q h = let k≡ : k ≡ i = omega arith in rw k≡ (w, List·Memᴰ·head refl, refl)
-  stub (begin l s t m a u r) (suc j) k q h = let s = stub r j k (omega arith) (omega arith) in (s .0, List·Memᴰ·tail (s .1), s .2)
-  stub (meet {i} {w = w} l m a r) zero k q h = let k≡ : k ≡ i = omega arith in rw k≡ (w, List·Memᴰ·head refl, refl)
-  stub (meet l m a r) (suc j) k q h = let s = stub r j k (omega arith) (omega arith) in (s .0, List·Memᴰ·tail (s .1), s .2)
-  stub (end {i} {w = w} l m a z r) zero k q h = let k≡ : k ≡ i = omega arith in rw k≡ (w, List·Memᴰ·head refl, refl)
-  stub (end l m a z r) (suc j) k q h = let s = stub r j k (omega arith) (omega arith) in (s .0, List·Memᴰ·tail (List·Memᴰ·tail (s .1)), s .2)
+  stub (turn l t n m m′ a r) j k q h = let s = stub r j k q h in (s .0, List·Memᴰ·tail (List·Memᴰ·tail (s .1)), s .2, s .3)
+  stub (begin {i} {w = w} l s t m a u r) zero k q h = let k≡ : k ≡ i = omega arith in rw k≡ (w, List·Memᴰ·head refl, refl, refl)
+  stub (begin l s t m a u r) (suc j) k q h = let s = stub r j k (omega arith) (omega arith) in (s .0, List·Memᴰ·tail (s .1), s .2, s .3)
+  stub (meet {i} {w = w} l m a r) zero k q h = let k≡ : k ≡ i = omega arith in rw k≡ (w, List·Memᴰ·head refl, refl, refl)
+  stub (meet l m a r) (suc j) k q h = let s = stub r j k (omega arith) (omega arith) in (s .0, List·Memᴰ·tail (s .1), s .2, s .3)
+  stub (end {i} {w = w} l m a z r) zero k q h = let k≡ : k ≡ i = omega arith in rw k≡ (w, List·Memᴰ·head refl, refl, refl)
+  stub (end l m a z r) (suc j) k q h = let s = stub r j k (omega arith) (omega arith) in (s .0, List·Memᴰ·tail (List·Memᴰ·tail (s .1)), s .2, s .3)

@@ -7,3 +7,4 @@ pub mod Joins
 pub mod Heights
 pub mod Drawn
 pub mod Obeyed
+pub mod Turns

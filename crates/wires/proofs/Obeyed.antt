@@ -18,6 +18,7 @@ use Rattle.rules.proofs.Open.{times}
 use Rattle.rules.proofs.Legal.{Legal}
 use Rattle.rules.proofs.Levels.{upper-min}
 use Rattle.rules.proofs.Accepted.{judge-passed}
+use Rattle.wires.specs.Levels.{own}
 use Rattle.wires.proofs.Among.{nil}
 use Rattle.wires.proofs.Gap.{bare}
 use Rattle.wires.proofs.Trace.{Trace}
@@ -37,7 +38,7 @@ stub-on c w = ((refl, omega arith, omega arith), refl)
 
 module _ (pitch ku kl : ℕ) (wide : ku + kl < pitch) (deep : kl ≤ axis) (law : (a : ℕ) → a ≤ ku → upper ku (suc a) ≡ min (suc a) ku)
     {es : List Entry} (legal : Legal ku kl 0 es) where
-  pub film-trace : Trace pitch ku kl 0 0 [] (labels 0 [] es) (draw pitch ku 0 0 [] es)
+  pub film-trace : Trace pitch ku kl 0 0 [] (labels 0 [] es) (own ku es) (draw pitch ku 0 0 [] es)
   unfolding from times
   film-trace =
       draw-trace pitch ku kl wide deep law legal 0 0 [] refl (λ e. refl) bare

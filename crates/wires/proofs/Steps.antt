@@ -244,7 +244,7 @@ module _ (ku kl x y : ℕ) (later : x ≤ y) where
         street = λ g. let t = all-at g (more-in m) .track in (λ z. t .off (sym z), omega (arith, t .low), omega (arith, t .high));
       }
 
-pub steps : {pitch ku kl i x : ℕ} {ws : List Wire} {row : List ℕ} {film : List Rec} → Trace pitch ku kl i x ws row film → Steps ku kl x ws film
+pub steps : {pitch ku kl i x : ℕ} {ws : List Wire} {row hs : List ℕ} {film : List Rec} → Trace pitch ku kl i x ws row hs film → Steps ku kl x ws film
 steps stop = done
 steps {pitch} {ku} {kl} (turn {i} {x} {y} l t d m n a r) = step (turn-event ku kl x y l t d m n a) (steps r)
 steps {pitch} {ku} {kl} (begin {i} {x} l s t m a f r) = step (begin-event ku kl x (pitch * i) l s t m a f) (steps r)
