@@ -34,12 +34,12 @@ getD-put zero w d o h = refl
 getD-put (suc k) w d [] h = absurd (omega arith)
 getD-put (suc k) w d (v ∷ o) h = getD-put k w d o (omega arith)
 
-net-at : (ws : List Wire) (a : ℕ) (d : Wire) → a < length ws → getD (nets ws) a 0 ≡ getD ws a d .net
+pub net-at : (ws : List Wire) (a : ℕ) (d : Wire) → a < length ws → getD (nets ws) a 0 ≡ getD ws a d .net
 net-at [] a d h = absurd (omega arith)
 net-at (w ∷ ws) zero d h = refl
 net-at (w ∷ ws) (suc a) d h = net-at ws a d (omega arith)
 
-length-nets : (ws : List Wire) → length (nets ws) ≡ length ws
+pub length-nets : (ws : List Wire) → length (nets ws) ≡ length ws
 length-nets ws = length-map ws (λ w. w .net)
 
 -- the nets of the open wires: each once, and of the n that have begun
@@ -59,7 +59,7 @@ unfolding one
 unless true = omega arith
 unless false = omega arith
 
-begun-next : (k : Kind) (a n : ℕ) (o : List ℕ) → a < counted k (length o) → Begun n o → Begun (begun k n) (then-order k a n o)
+pub begun-next : (k : Kind) (a n : ℕ) (o : List ℕ) → a < counted k (length o) → Begun n o → Begun (begun k n) (then-order k a n o)
 unfolding counted begun next
 begun-next B a n o h b = record { once = λ x. once x (eq-zero-or-pos (times x o)); low = λ x t. low x t (eq-zero-or-pos (times x o)) }
   where
@@ -150,7 +150,7 @@ closed-nets B a n h x ws = map-put (λ w. w .net) a (record { net = n; height = 
 closed-nets M a n h x ws = refl
 closed-nets E a n h x ws = map-cut (λ w. w .net) a ws ∙ ap (λ k. cut k (nets ws)) (omega arith)
 
-closed-falling : (k : Kind) (a : ℕ) (ws : List Wire) → Falling ws → Falling (closed k a ws)
+pub closed-falling : (k : Kind) (a : ℕ) (ws : List Wire) → Falling ws → Falling (closed k a ws)
 unfolding closed
 closed-falling B a ws f = f
 closed-falling M a ws f = f
@@ -163,11 +163,41 @@ ended M a n o h b e = let z : _≡_ {A = ℕ} 0 1 = cc in absurd (omega arith)
 ended E a n o h b e =
     (omega (arith, times-end (getD o a 0) a n o h, one-same (getD o a 0), b .once (getD o a 0)), b .low (getD o a 0) (times-at o a h))
 
-counted-le : (k : Kind) (b : ℕ) → b ≤ counted k b
+pub counted-le : (k : Kind) (b : ℕ) → b ≤ counted k b
 unfolding counted
 counted-le B b = omega arith
 counted-le M b = omega arith
 counted-le E b = omega arith
+
+-- the wires before, at and after a node at column y, whose gap begins at column x
+abbrev pub coming : Kind → (u a x : ℕ) → List Wire → List Wire
+coming k u a x ws = gap (target k u a) x ws .wires
+
+abbrev pub meeting : Kind → (u a n x y : ℕ) → List Wire → List Wire
+meeting k u a n x y ws = opened k n (heightAt u (suc a)) y a (coming k u a x ws)
+
+abbrev pub leaving : Kind → (u a n x y : ℕ) → List Wire → List Wire
+leaving k u a n x y ws = closed k a (meeting k u a n x y ws)
+
+-- the film from the stub of node i on
+unfoldable pub at-node : (pitch ku : ℕ) → Kind → (u a n i : ℕ) → List Wire → List Entry → List Rec
+at-node pitch ku k u a n i ws es =
+    let x = pitch * i in
+    let vs = meeting k u a n (pitch * (i - 1)) x ws in
+    let w = getD vs a (record { net = n; height = axis; since = x }) in
+    wall x axis w ∷ ending k x w ++ draw pitch ku (suc i) (begun k n) (closed k a vs) es
+
+-- what holds at a node of kind k, its net below a others, with b nets open before it
+pub record Passing (ku kl : ℕ) (k : Kind) (u a b n x y : ℕ) (ws : List Wire) : Type 0 where
+  pub laid : Laid ku kl u a (counted k b)
+  pub same : nets (coming k u a x ws) ≡ nets ws
+  pub all : length (coming k u a x ws) ≡ b
+  pub heights : Settled u 0 (meeting k u a n x y ws)
+  pub falls : Falling (meeting k u a n x y ws)
+  pub low : a < counted k (length (nets ws))
+  pub order : nets (leaving k u a n x y ws) ≡ then-order k a n (nets ws)
+  pub left-open : length (leaving k u a n x y ws) ≡ left k b
+  pub begun : Begun (begun k n) (nets (leaving k u a n x y ws))
 
 -- the first free column from node i on
 unfoldable pub from : (pitch i : ℕ) → ℕ
@@ -188,33 +218,81 @@ module _ (pitch ku kl : ℕ) (wide : ku + kl < pitch) (deep : kl ≤ axis) (law 
       let y : ℕ = gap t (pitch * i) ws .column in
       rw q (moves-then (gap-moves t (pitch * i) ws f g p) (rw q at (k y (omega (arith, gap-column t (pitch * i) ws)))))
 
+  pub passing : (k : Kind) (a b i n : ℕ) (ws : List Wire) → Fits ku kl (suc a) (counted k b) → length ws ≡ b → Begun n (nets ws)
+      → Passing ku kl k (upper ku (suc a)) a b n (pitch * (i - 1)) (pitch * i) ws
+  passing k a b i n ws h e beg =
+      record {
+        laid = laid;
+        same = n≡;
+        all = l≡;
+        heights = sv;
+        falls = settled-falling sv (λ i j p q m. position-falls laid (suc i) (suc j) (omega arith) (omega (arith, lv)));
+        low = go;
+        order = no;
+        left-open = sym (length-nets (closed k a vs)) ∙ ap length no ∙ length-then k a n (nets ws) go ∙ ap (left k) (length-nets ws ∙ e);
+        begun = rw no (begun-next k a n (nets ws) go beg);
+      }
+    where
+      u : ℕ
+      u = upper ku (suc a)
+
+      ws′ : List Wire
+      ws′ = coming k u a (pitch * (i - 1)) ws
+
+      vs : List Wire
+      vs = meeting k u a n (pitch * (i - 1)) (pitch * i) ws
+
+      n≡ : nets ws′ ≡ nets ws
+      n≡ = gap-nets (target k u a) (pitch * (i - 1)) ws
+
+      l≡ : length ws′ ≡ b
+      l≡ = sym (length-nets ws′) ∙ ap length n≡ ∙ length-nets ws ∙ e
+
+      laid : Laid ku kl u a (counted k b)
+      laid = record { law = law a (omega (arith, h .upper)); fits = h; deep = deep }
+
+      sv : Settled u 0 vs
+      sv = settled k u a n (pitch * i) ws′ (rw l≡ (h .high)) (gap-reached (target k u a) (pitch * (i - 1)) ws)
+
+      lv : length vs ≡ counted k b
+      lv = length-opened k n (heightAt u (suc a)) (pitch * i) a ws′ ∙ ap (counted k) l≡
+
+      go : a < counted k (length (nets ws))
+      go = rw (length-nets ws, e) (h .high)
+
+      no : nets (closed k a vs) ≡ then-order k a n (nets ws)
+      no = closed-nets k a n (heightAt u (suc a)) (pitch * i) ws′ ∙ ap (then-order k a n) n≡
+
+  -- the film from node i on, after the moves before it
+  pub node-on : (f : ℕ) {a b : ℕ} {es : List Entry} → Legal ku kl (left (kindIn f) b) es → (i n : ℕ) (ws : List Wire) → Begun n (nets ws)
+      → Passing ku kl (kindIn f) (upper ku (suc a)) a b n (pitch * (i - 1)) (pitch * i) ws
+      → Trace pitch ku kl (suc i) (suc (pitch * i)) (leaving (kindIn f) (upper ku (suc a)) a n (pitch * (i - 1)) (pitch * i) ws)
+      (labels (begun (kindIn f) n) (nets (leaving (kindIn f) (upper ku (suc a)) a n (pitch * (i - 1)) (pitch * i) ws)) es) (own ku es)
+      (draw pitch ku (suc i) (begun (kindIn f) n) (leaving (kindIn f) (upper ku (suc a)) a n (pitch * (i - 1)) (pitch * i) ws) es)
+      → (y : ℕ) → y ≤ pitch * i
+      → Trace pitch ku kl i y (coming (kindIn f) (upper ku (suc a)) a (pitch * (i - 1)) ws) (labels n (nets ws) (entry f a ∷ es)) (own ku (entry f a ∷ es))
+      (at-node pitch ku (kindIn f) (upper ku (suc a)) a n i ws es)
+  unfolding labels own at-node
+  node-on f {a} {b} {es} l i n ws beg p t y hy =
+      let k : Kind = kindIn f in
+      let u : ℕ = upper ku (suc a) in
+      let x : ℕ = pitch * (i - 1) in
+      let o : List ℕ = then-order k a n (nets ws) in
+      let lo : length o ≡ left k b = ap length (sym (p .order)) ∙ length-nets (leaving k u a n x (pitch * i) ws) ∙ p .left-open in
+      named-trace k i n y (coming k u a x ws) (nets ws) (p .same) (rw (p .all) (p .laid)) (gap-reached (target k u a) x ws) hy beg
+      (λ q. let z = ended k a n (nets ws) (p .low) beg q in gone ku kl l (begun k n) o lo (getD (nets ws) a 0) (z .0) (z .1))
+      (rw (p .order) at t)
+
   pub draw-trace : {b : ℕ} {es : List Entry} → Legal ku kl b es → (i n : ℕ) (ws : List Wire) → length ws ≡ b → (i ≡ 0 → ws ≡ []) → Falling ws → Begun n (nets ws)
       → Trace pitch ku kl i (from pitch i) ws (labels n (nets ws) es) (own ku es) (draw pitch ku i n ws es)
-  unfolding labels draw from own
+  unfolding labels own draw from at-node
   draw-trace done i n [] e s f b = stop
   draw-trace done i n (w ∷ ws) e s f b = absurd (omega arith)
   draw-trace (then {b} {f} {a} {es} f≢ h l) i n ws e s fall beg =
       let k : Kind = kindIn f in
       let u : ℕ = upper ku (suc a) in
-      let x : ℕ = pitch * (i - 1) in
-      let t : ℕ → ℕ = target k u a in
-      let ws′ : List Wire = gap t x ws .wires in
-      let vs : List Wire = opened k n (heightAt u (suc a)) (pitch * i) a ws′ in
-      let n≡ : nets ws′ ≡ nets ws = gap-nets t x ws in
-      let l≡ : length ws′ ≡ b = sym (length-nets ws′) ∙ ap length n≡ ∙ length-nets ws ∙ e in
-      let laid : Laid ku kl u a (counted k b) = record { law = law a (omega (arith, h .upper)); fits = h; deep = deep } in
-      let r : Reached t 0 ws′ = gap-reached t x ws in
-      let sv : Settled u 0 vs = settled k u a n (pitch * i) ws′ (rw l≡ (h .high)) r in
-      let lv : length vs ≡ counted k b = length-opened k n (heightAt u (suc a)) (pitch * i) a ws′ ∙ ap (counted k) l≡ in
-      let fv : Falling vs = settled-falling sv (λ i j p q m. position-falls laid (suc i) (suc j) (omega arith) (omega arith)) in
-      let go : a < counted k (length (nets ws)) = rw (length-nets ws, e) (h .high) in
-      let no : nets (closed k a vs) ≡ then-order k a n (nets ws) = closed-nets k a n (heightAt u (suc a)) (pitch * i) ws′ ∙ ap (then-order k a n) n≡ in
-      let lo : length (then-order k a n (nets ws)) ≡ left k b = length-then k a n (nets ws) go ∙ ap (left k) (length-nets ws ∙ e) in
-      let ih : Trace pitch ku kl (suc i) (suc (pitch * i)) (closed k a vs) (labels (begun k n) (nets (closed k a vs)) es) (own ku es)
-      (draw pitch ku (suc i) (begun k n) (closed k a vs) es) =
-      draw-trace l (suc i) (begun k n) (closed k a vs) (sym (length-nets (closed k a vs)) ∙ ap length no ∙ lo) (λ (z : suc i ≡ 0). absurd (omega arith))
-      (closed-falling k a vs fv) (rw no (begun-next k a n (nets ws) go beg)) in
-      gap-first t i ws s (omega (arith, h .sum, counted-le k b)) fall (rw e (target-falls b k laid)) (rw e (target-track b k laid))
-      (λ y hy. named-trace k i n y ws′ (nets ws) n≡ (rw l≡ laid) r hy beg
-      (λ q. let z = ended k a n (nets ws) go beg q in gone ku kl l (begun k n) (then-order k a n (nets ws)) lo (getD (nets ws) a 0) (z .0) (z .1))
-      (rw no at ih))
+      let p = passing k a b i n ws h e beg in
+      gap-first (target k u a) i ws s (omega (arith, h .sum, counted-le k b)) fall (rw e (target-falls b k (p .laid))) (rw e (target-track b k (p .laid)))
+      (node-on f l i n ws beg p
+      (draw-trace l (suc i) (begun k n) (leaving k u a n (pitch * (i - 1)) (pitch * i) ws) (p .left-open) (λ (z : suc i ≡ 0). absurd (omega arith))
+      (closed-falling k a (meeting k u a n (pitch * (i - 1)) (pitch * i) ws) (p .falls)) (p .begun)))

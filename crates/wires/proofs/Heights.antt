@@ -182,7 +182,7 @@ reached-others C (wire {q} e r) (suc a) f =
     cons (subst C (sym e) (f q (omega arith) (omega arith) (λ (z : q ≡ q + suc a). omega arith)))
     (reached-others C r a (λ i h k d. f i (omega arith) (omega arith) (λ (z : i ≡ q + suc a). d (omega arith))))
 
-all-cut : {P : Wire → Type 0} (k : ℕ) {ws : List Wire} → All P ws → All P (cut k ws)
+pub all-cut : {P : Wire → Type 0} (k : ℕ) {ws : List Wire} → All P ws → All P (cut k ws)
 unfolding cut
 all-cut k nil = nil
 all-cut zero (cons p a) = a

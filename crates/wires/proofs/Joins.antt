@@ -81,7 +81,7 @@ gone row j w h z e = omega (arith, rw e at (times-at row j h))
 
 module _ {pitch ku kl : ℕ} where
   -- the run of an open wire ends at some column
-  run-ends : {i x : ℕ} {ws : List Wire} {row hs : List ℕ} {film : List Rec} → Trace pitch ku kl i x ws row hs film → (v : Wire) → List·Memᴰ v ws
+  pub run-ends : {i x : ℕ} {ws : List Wire} {row hs : List ℕ} {film : List Rec} → Trace pitch ku kl i x ws row hs film → (v : Wire) → List·Memᴰ v ws
       → (c : ℕ) × (x ≤ c) × List·Memᴰ (ran c v) film
   run-ends stop v d = absurd (List·Memᴰ·not-nil d)
   run-ends (turn {y = y} l t n m m′ a r) v d =

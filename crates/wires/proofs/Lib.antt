@@ -8,3 +8,5 @@ pub mod Heights
 pub mod Drawn
 pub mod Obeyed
 pub mod Turns
+pub mod Cover
+pub mod Stretches

@@ -127,7 +127,7 @@ marks-times net c (w ∷ ws) = go (eqb (w .net) net) (leb (w .since) c) (marks-t
 -- ---- the events of a trace
 
 -- among an event's records there is one run at most
-not-wall : {n h l r m k x i : ℕ} → across n h l r ≡ upright m k x i → ⊥
+pub not-wall : {n h l r m k x i : ℕ} → across n h l r ≡ upright m k x i → ⊥
 not-wall e = let z : _≡_ {A = ℕ} 0 1 = cc in omega arith
 
 no-run : {n h l r m k x i : ℕ} → List·Memᴰ (across n h l r) (upright m k x i ∷ []) → ⊥

@@ -91,6 +91,14 @@ own ku (entry f a ∷ es) = heightAt (upper ku (suc a)) (suc a) ∷ own ku es
 abbrev pub level : (pitch ku : ℕ) → List Entry → (x c : ℕ) → Option ℕ
 level pitch ku es x c = levelAt pitch (stops ku 0 [] es) c x
 
+-- a film has a horizontal of net x at height h over the stretch between columns c and c + 1
+pub record Over (film : List Rec) (x c h : ℕ) : Type 0 where
+  pub left : ℕ
+  pub right : ℕ
+  pub among : List·Memᴰ (across x h left right) film
+  pub begins : left ≤ c
+  pub ends : c < right
+
 -- the records that the rules ask for: the longest runs, a vertical at each change of height, and a stub at each pin
 pub data Ruled (pitch ku : ℕ) (es : List Entry) : Rec → Type 0 where
   run : {x h l r : ℕ} → Longest (level pitch ku es x) h l r → Ruled pitch ku es (across x h l r)
