@@ -1,0 +1,12 @@
+pub mod Among
+pub mod Gap
+pub mod Trace
+pub mod Steps
+pub mod Rules
+pub mod Joins
+pub mod Heights
+pub mod Drawn
+pub mod Obeyed
+pub mod Turns
+pub mod Cover
+pub mod Stretches
