@@ -25,7 +25,7 @@ use Rattle.rules.proofs.Demand3.{Fit}
 use Rattle.orders.specs.Plan.{Step, steps, Steps, Tells}
 use Rattle.orders.specs.Ranks.{hops, Way}
 use Rattle.orders.specs.Sets.{Clear}
-use Rattle.orders.specs.Passes.{Given, Passes, First}
+use Rattle.orders.specs.Passes.{Given, First}
 use Rattle.orders.proofs.Ways.{steps-length}
 use Rattle.script.specs.Told.{Told}
 use Rattle.script.proofs.Touched.{tells-steps}

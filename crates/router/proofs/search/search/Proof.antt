@@ -4,7 +4,8 @@ use Prim.Native.Nat.{zero}
 use native.Mathlib.Omega.{arith}
 use borrow.Author.Needs.{needs}
 use Rattle.orders.proofs.Ways.{steps-length}
-use Rattle.router.proofs.Searching.{given-again, passed-all, filled-all, passes-all, pruned-kept}
+use Rattle.orders.proofs.Joining.{given-same, forward-filled, forward-passes, pruned-kept}
+use Rattle.router.proofs.Searching.{all-passed}
 use Rattle.router.proofs.search.search.Statement.{statement}
 use Rattle.router.proofs.search.search.Tie as tie
 
@@ -16,7 +17,7 @@ forward-requires c κs =
     let s = c .before .before .before .before .before .before .before .before .before in
     let g = s .args in
     let w = c .before .before .before .wipe in
-    (given-again (g .kinds .now) (g .ages .now) (g .counts .now) (g .ku) (g .kl) (g .work .now) (w .last .0) (s .pre .0) (w .ensures .0), w .ensures .1)
+    (given-same (g .kinds .now) (g .ages .now) (g .counts .now) (g .ku) (g .kl) (g .work .now) (w .last .0) (w .ensures .0) (s .pre .0), w .ensures .1)
 
 wipe-requires-2 : tie.Need-wipe-requires-2
 wipe-requires-2 c κs = search needs
@@ -48,10 +49,10 @@ prune-requires c κs =
     let w = c .before .before .before .before .before .before .before .before .wipe in
     let f = c .before .before .before .before .forward in
     let h = c .before .if1 .left in (
-      given-again (g .kinds .now) (g .ages .now) (g .counts .now) (g .ku) (g .kl) (g .work .now) (f .last .0) (s .pre .0) (f .ensures .long ∙ w .ensures .0),
+      given-same (g .kinds .now) (g .ages .now) (g .counts .now) (g .ku) (g .kl) (g .work .now) (f .last .0) (f .ensures .long ∙ w .ensures .0) (s .pre .0),
       (
-        filled-all (g .kinds .now) (g .ages .now) (g .counts .now) (g .ku) (g .kl) (w .last .0) (f .last .0) (f .result) (f .ensures) (omega arith),
-        passes-all (g .kinds .now) (g .ages .now) (g .counts .now) (g .ku) (g .kl) (w .last .0) (f .last .0) (f .result) (f .ensures) (omega arith),
+        forward-filled (g .kinds .now) (g .ages .now) (g .counts .now) (g .ku) (g .kl) (w .last .0) (f .last .0) (all-passed (g .kinds .now) (g .ages .now) (g .counts .now) (g .ku) (g .kl) (w .last .0) (f .last .0) (f .result) (f .ensures) (omega arith)),
+        forward-passes (g .kinds .now) (g .ages .now) (g .counts .now) (g .ku) (g .kl) (w .last .0) (f .last .0) (all-passed (g .kinds .now) (g .ages .now) (g .counts .now) (g .ku) (g .kl) (w .last .0) (f .last .0) (f .result) (f .ensures) (omega arith)),
       ),
     )
 
@@ -63,13 +64,13 @@ pick-requires c κs =
     let f = c .before .before .before .before .before .before .before .before .forward in
     let p = c .before .before .before .prune in
     let h = c .before .before .before .before .before .if1 .left in
-    let given-f = given-again (g .kinds .now) (g .ages .now) (g .counts .now) (g .ku) (g .kl) (g .work .now) (f .last .0) (s .pre .0) (f .ensures .long ∙ w .ensures .0) in
-    let filled = filled-all (g .kinds .now) (g .ages .now) (g .counts .now) (g .ku) (g .kl) (w .last .0) (f .last .0) (f .result) (f .ensures) (omega arith) in (
-      given-again (g .kinds .now) (g .ages .now) (g .counts .now) (g .ku) (g .kl) (f .last .0) (p .last .0) given-f (p .ensures .long),
+    let given-f = given-same (g .kinds .now) (g .ages .now) (g .counts .now) (g .ku) (g .kl) (g .work .now) (f .last .0) (f .ensures .long ∙ w .ensures .0) (s .pre .0) in
+    let filled = forward-filled (g .kinds .now) (g .ages .now) (g .counts .now) (g .ku) (g .kl) (w .last .0) (f .last .0) (all-passed (g .kinds .now) (g .ages .now) (g .counts .now) (g .ku) (g .kl) (w .last .0) (f .last .0) (f .result) (f .ensures) (omega arith)) in (
+      given-same (g .kinds .now) (g .ages .now) (g .counts .now) (g .ku) (g .kl) (f .last .0) (p .last .0) (p .ensures .long) given-f,
       (
         pruned-kept (g .kinds .now) (g .ages .now) (g .counts .now) (g .ku) (g .kl) (f .last .0) (p .last .0) given-f filled (p .ensures),
         (
-          passes-all (g .kinds .now) (g .ages .now) (g .counts .now) (g .ku) (g .kl) (w .last .0) (f .last .0) (f .result) (f .ensures) (omega arith),
+          forward-passes (g .kinds .now) (g .ages .now) (g .counts .now) (g .ku) (g .kl) (w .last .0) (f .last .0) (all-passed (g .kinds .now) (g .ages .now) (g .counts .now) (g .ku) (g .kl) (w .last .0) (f .last .0) (f .result) (f .ensures) (omega arith)),
           s .pre .1,
         ),
       ),
