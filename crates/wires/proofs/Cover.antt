@@ -15,9 +15,9 @@ use Rattle.wires.specs.Levels.{Over}
 use Rattle.wires.proofs.Among.{All, nil, cons, all-at, More, more-in, more-still}
 use Rattle.wires.proofs.Gap.{Moves, still, move}
 use Rattle.wires.proofs.Trace.{Trace, Track}
-use Rattle.wires.proofs.Steps.{nets, Runs, Good, Steps, more-times, among-more, not-wall, turn-event}
+use Rattle.wires.proofs.Steps.{nets, in-nets, Runs, Good, Steps, more-times, among-more, not-wall, turn-event}
 use Rattle.wires.proofs.Rules.{Ahead, run-ahead, wall-ahead, ahead, cuts}
-use Rattle.wires.proofs.Joins.{run-ends, in-nets}
+use Rattle.wires.proofs.Joins.{run-ends}
 
 pub over-in : {film more : List Rec} {x c h : ℕ} → ((r : Rec) → List·Memᴰ r film → List·Memᴰ r more) → Over film x c h → Over more x c h
 over-in f o = record { left = o .left; right = o .right; among = f (across _ _ (o .left) (o .right)) (o .among); begins = o .begins; ends = o .ends }

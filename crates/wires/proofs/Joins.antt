@@ -13,7 +13,7 @@ use Rattle.rules.proofs.Open.{one, one-same, times}
 use Rattle.rules.proofs.GivenBack.{times-at}
 use Rattle.wires.proofs.Among.{All, all-at, More, more-in, more-still}
 use Rattle.wires.proofs.Trace.{Trace, stop, turn, begin, meet, end}
-use Rattle.wires.proofs.Steps.{nets, more-times, among-more, Good, Event, turn-event, begin-event, meet-event, end-event}
+use Rattle.wires.proofs.Steps.{nets, in-nets, other-net, among-more, Good, Event, turn-event, begin-event, meet-event, end-event}
 
 pub linked-sym : {net : ℕ} {film : List Rec} {x y x′ y′ : ℕ} → Linked net film x y x′ y′ → Linked net film x′ y′ x y
 linked-sym (on-one r d n o o′) = on-one r d n o′ o
@@ -28,17 +28,8 @@ pub record Fine (ku kl x : ℕ) (ws : List Wire) : Type 0 where
   pub good : All (Good ku kl x) ws
   pub once : (m : ℕ) → times m (nets ws) ≤ 1
 
-fine : {ku kl x y : ℕ} {ws vs : List Wire} {recs : List Rec} → Event ku kl x y ws recs vs → Fine ku kl x ws → Fine ku kl (suc y) vs
+pub fine : {ku kl x y : ℕ} {ws vs : List Wire} {recs : List Rec} → Event ku kl x y ws recs vs → Fine ku kl x ws → Fine ku kl (suc y) vs
 fine e f = record { good = e .good (f .good); once = λ m. e .once m (f .once m) }
-
-pub in-nets : {v : Wire} {ws : List Wire} → List·Memᴰ v ws → 0 < times (v .net) (nets ws)
-unfolding times
-in-nets {v} (List·Memᴰ·head {x} e) = rw (ap (λ u. u .net) e) (omega (arith, one-same (x .net)))
-in-nets (List·Memᴰ·tail d) = omega (arith, in-nets d)
-
--- no other wire has a wire's net
-other-net : {w v : Wire} {l m : List Wire} → More w l m → ((k : ℕ) → times k (nets m) ≤ 1) → List·Memᴰ v l → w .net ≡ v .net → ⊥
-other-net {w} {v} k o d e = omega (arith, o (v .net), more-times (v .net) k, in-nets d, subst (λ k. one (eqb (w .net) k) ≡ 1) e (one-same (w .net)))
 
 -- along a run, and up or down a vertical
 along : {film : List Rec} (w : Wire) (c x y : ℕ) → List·Memᴰ (ran c w) film → (w .since ≤ x) × (x ≤ c) → (w .since ≤ y) × (y ≤ c)

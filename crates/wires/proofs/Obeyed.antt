@@ -27,7 +27,7 @@ use Rattle.wires.proofs.Rules as rules
 use Rattle.wires.proofs.Joins.{Fine, joins, stub}
 use Rattle.wires.proofs.Drawn.{Begun, from, draw-trace}
 
-none-open : {ku kl : ℕ} → Fine ku kl 0 []
+pub none-open : {ku kl : ℕ} → Fine ku kl 0 []
 unfolding times
 none-open = record { good = nil; once = λ m. omega arith }
 
@@ -69,7 +69,7 @@ module _ (pitch ku kl : ℕ) (wide : ku + kl < pitch) (deep : kl ≤ axis) (law 
         filled = rules.filled film-steps;
       }
 
-takes-le : (ku kl : ℕ) → takes ku kl ≡ true → (ku ≤ 3) × (kl ≤ 3)
+pub takes-le : (ku kl : ℕ) → takes ku kl ≡ true → (ku ≤ 3) × (kl ≤ 3)
 unfolding takes
 takes-le ku kl e = go (leb ku 3) (leb kl 3) refl refl e
   where

@@ -1,5 +1,5 @@
 -- What the wire rules need of an event, and that every event of a trace has it.
-use mathlib.Core.Path.{_≡_, refl, sym, ap, ap₂, _∙_}
+use mathlib.Core.Path.{_≡_, refl, sym, ap, ap₂, _∙_, subst}
 use mathlib.Core.Bool.{Bool, true, false, _&&_}
 use mathlib.Core.List.{List, [], _∷_, _++_, map, List·Memᴰ, List·Memᴰ·head, List·Memᴰ·tail, List·Memᴰ·not-nil}
 use mathlib.Core.Logic.{_≢_, _⊎_, inl, inr}
@@ -10,7 +10,8 @@ use borrow.Author.Tests.{lt-ltb, le-ltb, lt-leb, eqb-true, eqb-false}
 use Rattle.rules.specs.Basic.{pick}
 use Rattle.rules.specs.Film.{Rec, across, upright, Wire, axis, ran, wall, bent}
 use Rattle.rules.specs.WireRules.{over, overs}
-use Rattle.rules.proofs.Open.{one, one-other, times}
+use Rattle.rules.proofs.Open.{one, one-same, one-other, times}
+use Rattle.wires.specs.Levels.{Distinct, nothing, another}
 use Rattle.wires.proofs.Among.{All, nil, cons, all-at, More, here, there, more-cases, more-in, more-still, all-more, all-less, all-map}
 use Rattle.wires.proofs.Gap.{Aside, Clear}
 use Rattle.wires.proofs.Trace.{Track, Trace, stop, turn, begin, meet, end}
@@ -54,6 +55,9 @@ pub record Event (ku kl x y : ℕ) (ws : List Wire) (recs : List Rec) (vs : List
   pub parts : All (Part net a b y ws vs) recs
   pub single : (n h l r n′ h′ l′ r′ : ℕ) → List·Memᴰ (across n h l r) recs → List·Memᴰ (across n′ h′ l′ r′) recs → across n h l r ≡ across n′ h′ l′ r′
   pub clear : (v : Wire) → List·Memᴰ v vs → (v .net ≡ net) ⊎ Clear a b (v .height)
+  pub turned : ((m : ℕ) → times m (nets ws) ≤ 1) → (v : Wire) → List·Memᴰ v vs
+      → List·Memᴰ v ws ⊎ ((w : Wire) → List·Memᴰ w ws → w .net ≡ v .net → List·Memᴰ (upright (v .net) (min (v .height) (w .height)) y (max (v .height) (w .height))) recs)
+  pub distinct : Distinct recs
   pub kept : (v : Wire) → List·Memᴰ v vs → List·Memᴰ v ws ⊎ (v .since ≡ y)
   pub crossed : (m c : ℕ) → c < y → overs m c recs + marks m c vs ≡ marks m c ws
   pub behind : (m c : ℕ) → y ≤ c → overs m c recs ≡ 0
@@ -103,6 +107,15 @@ unfolding times
 more-times x here = refl
 more-times x (there k) = omega (arith, more-times x k)
 
+pub in-nets : {v : Wire} {ws : List Wire} → List·Memᴰ v ws → 0 < times (v .net) (nets ws)
+unfolding times
+in-nets {v} (List·Memᴰ·head {x} e) = rw (ap (λ u. u .net) e) (omega (arith, one-same (x .net)))
+in-nets (List·Memᴰ·tail d) = omega (arith, in-nets d)
+
+-- no other wire has a wire's net
+pub other-net : {w v : Wire} {l m : List Wire} → More w l m → ((k : ℕ) → times k (nets m) ≤ 1) → List·Memᴰ v l → w .net ≡ v .net → ⊥
+other-net {w} {v} k o d e = omega (arith, o (v .net), more-times (v .net) k, in-nets d, subst (λ k. one (eqb (w .net) k) ≡ 1) e (one-same (w .net)))
+
 one-le : (t : Bool) → one t ≤ 1
 unfolding one
 one-le true = omega arith
@@ -133,6 +146,10 @@ not-wall e = let z : _≡_ {A = ℕ} 0 1 = cc in omega arith
 no-run : {n h l r m k x i : ℕ} → List·Memᴰ (across n h l r) (upright m k x i ∷ []) → ⊥
 no-run (List·Memᴰ·head e) = not-wall e
 no-run (List·Memᴰ·tail d) = List·Memᴰ·not-nil d
+
+no-wall : {n h l r m k x i : ℕ} → List·Memᴰ (upright m k x i) (across n h l r ∷ []) → ⊥
+no-wall (List·Memᴰ·head e) = not-wall (sym e)
+no-wall (List·Memᴰ·tail d) = List·Memᴰ·not-nil d
 
 run-first : {n h l r m k x i : ℕ} {p : Rec} → List·Memᴰ (across n h l r) (p ∷ upright m k x i ∷ []) → across n h l r ≡ p
 run-first (List·Memᴰ·head e) = e
@@ -171,6 +188,12 @@ module _ (ku kl x y : ℕ) (later : x ≤ y) where
             (cons {x = wall y h w} (vertical refl refl refl refl) nil);
         single = λ n h l r n′ h′ l′ r′ p q. run-first p ∙ sym (run-first q);
         clear = λ v. among-more n (λ e. inl (ap (λ u. u .net) e)) (λ i. inr (all-at a i));
+        turned = λ o v. among-more n
+            (λ e. inr (λ z. among-more m
+            (λ f q. List·Memᴰ·tail (List·Memᴰ·head (ap₂ (λ u z. upright (u .net) (min (u .height) (z .height)) y (max (u .height) (z .height))) e f)))
+            (λ i q. absurd (other-net m o i (sym (ap (λ u. u .net) e) ∙ sym q)))))
+            (λ i. inl (more-still m i));
+        distinct = another no-run (another List·Memᴰ·not-nil nothing);
         kept = λ v. among-more n (λ e. inr (ap (λ u. u .since) e)) (λ i. inl (more-still m i));
         crossed = λ k c l. omega (arith, more-marks k c m, more-marks k c n, mark-both k y c w l, mark-later k c (bent true h y w) l);
         behind = λ k c l. omega (arith, mark-past k y c w l);
@@ -191,6 +214,8 @@ module _ (ku kl x y : ℕ) (later : x ≤ y) where
         parts = cons {x = wall y axis w} (vertical refl refl refl refl) nil;
         single = λ n h l r n′ h′ l′ r′ p q. absurd (no-run p);
         clear = λ v. among-more m (λ e. inl (ap (λ u. u .net) e)) (λ i. inr (all-at a i));
+        turned = λ o v. among-more m (λ e. inr (λ z i q. absurd (all-at f i (q ∙ ap (λ u. u .net) e)))) (λ i. inl i);
+        distinct = another List·Memᴰ·not-nil nothing;
         kept = λ v. among-more m (λ e. inr (ap (λ u. u .since) e ∙ s)) (λ i. inl i);
         crossed = λ k c l. omega (arith, more-marks k c m, mark-later k c w (omega arith));
         behind = λ k c l. omega arith;
@@ -214,6 +239,8 @@ module _ (ku kl x y : ℕ) (later : x ≤ y) where
         parts = cons {x = wall y axis w} (vertical refl refl refl refl) nil;
         single = λ n h l r n′ h′ l′ r′ p q. absurd (no-run p);
         clear = λ v. among-more m (λ e. inl (ap (λ u. u .net) e)) (λ i. inr (all-at a i));
+        turned = λ o v. inl;
+        distinct = another List·Memᴰ·not-nil nothing;
         kept = λ v. inl;
         crossed = λ k c l. omega arith;
         behind = λ k c l. omega arith;
@@ -236,6 +263,8 @@ module _ (ku kl x y : ℕ) (later : x ≤ y) where
             (λ v i z. all-at a i (omega arith) (omega arith))) nil);
         single = λ n h l r n′ h′ l′ r′ p q. run-last p ∙ sym (run-last q);
         clear = λ v i. inr (all-at a i);
+        turned = λ o v i. inl (more-still m i);
+        distinct = another (λ d. no-wall d) (another List·Memᴰ·not-nil nothing);
         kept = λ v i. inl (more-still m i);
         crossed = λ k c l. omega (arith, more-marks k c m, mark-both k y c w l);
         behind = λ k c l. omega (arith, mark-past k y c w l);

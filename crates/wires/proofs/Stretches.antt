@@ -25,8 +25,7 @@ use Rattle.wires.specs.Levels.{Stop, present, stops, heightIn, rises, si
 use Rattle.wires.proofs.Among.{All, nil, cons, all-at, all-map, all-more, all-less, more-put, more-cut, lt-or-ge}
 use Rattle.wires.proofs.Gap.{Falling, Reached, no-wire, wire, Moves, gap-moves, gap-reached, gap-nets, gap-column}
 use Rattle.wires.proofs.Trace.{Track, Trace}
-use Rattle.wires.proofs.Steps.{nets, Runs, Good, Steps, steps, not-wall}
-use Rattle.wires.proofs.Joins.{in-nets}
+use Rattle.wires.proofs.Steps.{nets, in-nets, Runs, Good, Steps, steps, not-wall}
 use Rattle.wires.proofs.Heights.{Laid, Settled, reached-at, all-cut, position-track, target-falls, target-track}
 use Rattle.wires.proofs.Drawn.{Begun, begun-next, net-at, length-nets, closed-falling, counted-le, coming, meeting, leaving, at-node, Passing, passing, node-on, draw-trace, from}
 use Rattle.wires.proofs.Turns.{Aims, no-aim, aim, Passed, gap-turns}

@@ -14,8 +14,7 @@ use Rattle.rules.proofs.Open.{one, one-same, times}
 use Rattle.wires.specs.Levels.{Stop, heightIn, rises, sinks, count, above, below, turnAt}
 use Rattle.wires.proofs.Among.{All, nil, cons, all-at, all-map}
 use Rattle.wires.proofs.Gap.{climb-nets}
-use Rattle.wires.proofs.Steps.{nets}
-use Rattle.wires.proofs.Joins.{in-nets}
+use Rattle.wires.proofs.Steps.{nets, in-nets}
 
 -- the heights to reach, by place and by net
 pub data Aims (t R : ℕ → ℕ) : ℕ → List ℕ → Type 0 where
