@@ -1,11 +1,10 @@
 -- The film of legal entries has exactly the records of the rules, the longest runs, the moves and the stubs, each once.
-use mathlib.Core.Path.{_≡_, refl, sym, ap, ap₂, _∙_, subst}
-use mathlib.Core.List.{List, [], _∷_, List·Memᴰ, Memᴰ·cast}
-use mathlib.Core.Logic.{_≢_, _⊎_, inl, inr, _↔_}
-use mathlib.Core.Option.{Option, none, some}
-use Prim.Native.Nat.{ℕ, zero, suc, _+_, _-_, _*_, _≤_, _<_, min, max}
+use mathlib.Core.Path.{_≡_, sym, ap, ap₂, _∙_, subst}
+use mathlib.Core.List.{List, [], List·Memᴰ, Memᴰ·cast}
+use mathlib.Core.Logic.{_⊎_, inl, inr, _↔_}
+use mathlib.Core.Option.{none, some}
+use Prim.Native.Nat.{ℕ, suc, _+_, _-_, _*_, _≤_, _<_, min, max}
 use native.Mathlib.Omega.{arith}
-use lib.ListN.{length, getD}
 use Rattle.rules.specs.Sheet.{Entry, labels, upperOf, lowerOf, entriesOf}
 use Rattle.rules.specs.Judgement.{judge}
 use Rattle.rules.specs.Film.{Rec, across, upright, Wire, axis, upper, wall, draw, records}
@@ -13,7 +12,7 @@ use Rattle.rules.proofs.Legal.{Legal}
 use Rattle.rules.proofs.Levels.{upper-min}
 use Rattle.rules.proofs.Accepted.{judge-passed}
 use Rattle.rules.proofs.GivenBack.{length-labels}
-use Rattle.wires.specs.Levels.{own, level, Longest, Over, Ruled, run, move, stub, Distinct, ByRule}
+use Rattle.wires.specs.Levels.{own, level, Longest, Over, Ruled, run, move, stub, ByRule}
 use Rattle.wires.proofs.Among.{nil, lt-or-ge}
 use Rattle.wires.proofs.Steps.{Steps, steps}
 use Rattle.wires.proofs.Rules.{filled, on-tracks}
@@ -21,6 +20,10 @@ use Rattle.wires.proofs.Joins as joins
 use Rattle.wires.proofs.Stretches.{film-levels}
 use Rattle.wires.proofs.Verticals.{Upright, a-stub, a-move, uprights, turns, distinct}
 use Rattle.wires.proofs.Obeyed.{none-open, film-trace, takes-le}
+
+is-stub : {x l c h : ℕ} (w : Wire) (y : ℕ) → x ≡ w .net → l ≡ min axis (w .height) → c ≡ y → h ≡ max axis (w .height) → upright x l c h ≡ wall y axis w
+unfolding wall
+is-stub w y e u g v = cc
 
 module _ (pitch ku kl : ℕ) (wide : ku + kl < pitch) (deep : kl ≤ axis) (law : (a : ℕ) → a ≤ ku → upper ku (suc a) ≡ min (suc a) ku)
     {es : List Entry} (legal : Legal ku kl 0 es) where
@@ -85,20 +88,14 @@ module _ (pitch ku kl : ℕ) (wide : ku + kl < pitch) (deep : kl ≤ axis) (law 
   is-ruled (upright x l c h) m = ruled-upright x l c h (uprights (film-trace pitch ku kl wide deep law legal) none-open x l c h m)
 
   ruled-is : {r : Rec} → Ruled pitch ku es r → List·Memᴰ r film
-  unfolding wall
   ruled-is (run {x} {h} {l} {r} g) = longest-is x h l r g
   ruled-is (move {x} {c} {a} {b} {l} {h} p q d u v) =
       let l≡ : l ≡ min b a = omega arith in
       let h≡ : h ≡ max b a = omega arith in
       Memᴰ·cast (ap₂ (λ y z. upright x y (suc c) z) l≡ h≡) (turns parts (none-open {ku = ku} {kl = kl} .once) x c a b (heights c x a .1 p) (heights (suc c) x b .1 q) d)
-  ruled-is (stub {x} {l} {c} {h} i q e g u v) =
+  ruled-is (stub i q e g u v) =
       let t = joins.stub (film-trace pitch ku kl wide deep law legal) i i (omega arith) (omega (arith, length-labels 0 [] es)) in
-      let w = t .0 in
-      let n≡ : x ≡ w .net = e ∙ sym (t .2) in
-      let l≡ : l ≡ min axis (w .height) = u ∙ ap (min axis) (sym (t .3)) in
-      let h≡ : h ≡ max axis (w .height) = v ∙ ap (max axis) (sym (t .3)) in
-      let r≡ : upright x l c h ≡ upright (w .net) (min axis (w .height)) (pitch * i) (max axis (w .height)) = cc in
-      Memᴰ·cast r≡ (t .1)
+      Memᴰ·cast (is-stub (t .0) (pitch * i) (e ∙ sym (t .2)) (u ∙ ap (min axis) (sym (t .3))) g (v ∙ ap (max axis) (sym (t .3)))) (t .1)
 
   pub by-rule : ByRule pitch ku es film
   by-rule = record { exactly = λ r. (is-ruled r, ruled-is); once = distinct parts }

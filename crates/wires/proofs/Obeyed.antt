@@ -2,17 +2,16 @@
 -- that of every accepted sheet.
 use mathlib.Core.Path.{_≡_, refl, sym, _∙_}
 use mathlib.Core.Bool.{Bool, true, false, _&&_}
-use mathlib.Core.List.{List, [], _∷_, List·Memᴰ}
+use mathlib.Core.List.{List, []}
 use mathlib.Core.Option.{none}
-use Prim.Native.Nat.{ℕ, zero, suc, _+_, _-_, _*_, _≤_, _<_, min, max}
-use native.Mathlib.Nat.{zero-add}
+use Prim.Native.Nat.{ℕ, suc, _+_, _*_, _≤_, _<_, min}
 use native.Mathlib.Omega.{arith}
-use lib.ListN.{length, getD}
+use lib.ListN.{getD}
 use lib.Dec.{leb}
 use borrow.Author.Tests.{leb-true}
-use Rattle.rules.specs.Sheet.{takes, Entry, labels, upperOf, lowerOf, entriesOf, rowOf}
+use Rattle.rules.specs.Sheet.{takes, Entry, labels, upperOf, lowerOf, rowOf}
 use Rattle.rules.specs.Judgement.{judge}
-use Rattle.rules.specs.Film.{Rec, across, upright, Wire, axis, upper, wall, draw, records}
+use Rattle.rules.specs.Film.{Wire, axis, upper, wall, draw, records}
 use Rattle.rules.specs.WireRules.{netOf, On, WireRules, Tidy}
 use Rattle.rules.proofs.Open.{times}
 use Rattle.rules.proofs.Legal.{Legal}
@@ -25,7 +24,7 @@ use Rattle.wires.proofs.Trace.{Trace}
 use Rattle.wires.proofs.Steps.{Steps, steps}
 use Rattle.wires.proofs.Rules as rules
 use Rattle.wires.proofs.Joins.{Fine, joins, stub}
-use Rattle.wires.proofs.Drawn.{Begun, from, draw-trace}
+use Rattle.wires.proofs.Drawn.{from, draw-trace}
 
 pub none-open : {ku kl : ℕ} → Fine ku kl 0 []
 unfolding times

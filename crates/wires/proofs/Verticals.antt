@@ -1,18 +1,17 @@
 -- Each vertical of a trace is a stub or the move between two heights, each change of height has its vertical, and no record stands twice.
-use mathlib.Core.Path.{_≡_, refl, sym, ap, ap₂, _∙_, subst}
+use mathlib.Core.Path.{_≡_, refl, sym, ap, _∙_, subst}
 use mathlib.Core.Bool.{true}
-use mathlib.Core.List.{List, [], _∷_, _++_, List·Memᴰ, List·Memᴰ·head, List·Memᴰ·tail, List·Memᴰ·not-nil, List·Memᴰ·append-cases, Memᴰ·append-left, Memᴰ·append-right, Memᴰ·cast}
+use mathlib.Core.List.{List, _∷_, _++_, List·Memᴰ, List·Memᴰ·head, List·Memᴰ·tail, List·Memᴰ·not-nil, List·Memᴰ·append-cases, Memᴰ·append-left, Memᴰ·append-right, Memᴰ·cast}
 use mathlib.Core.Logic.{_≢_, _⊎_, inl, inr}
-use Prim.Native.Nat.{ℕ, zero, suc, _+_, _-_, _*_, _≤_, _<_, min, max}
+use Prim.Native.Nat.{ℕ, suc, _+_, _-_, _*_, _≤_, _<_, min, max}
 use native.Mathlib.Omega.{arith}
 use lib.ListN.{length, getD}
-use lib.Dec.{eqb}
 use Rattle.rules.specs.Film.{Rec, across, upright, Wire, axis, ran, wall, bent}
-use Rattle.rules.proofs.Open.{one, one-same, times}
+use Rattle.rules.proofs.Open.{times}
 use Rattle.wires.specs.Levels.{Over, Distinct, nothing, another}
-use Rattle.wires.proofs.Among.{All, all-at, more-in, lt-or-ge}
+use Rattle.wires.proofs.Among.{all-at, here, more-in, lt-or-ge}
 use Rattle.wires.proofs.Trace.{Trace, stop, turn, begin, meet, end}
-use Rattle.wires.proofs.Steps.{nets, in-nets, other-net, not-wall, Runs, Part, run, vertical, Event, Steps, done, step, turn-event, begin-event, meet-event, end-event}
+use Rattle.wires.proofs.Steps.{nets, other-net, not-wall, Runs, Part, run, vertical, Event, Steps, done, step, turn-event, begin-event, meet-event, end-event}
 use Rattle.wires.proofs.Rules.{Ahead, run-ahead, wall-ahead, ahead}
 use Rattle.wires.proofs.Joins.{Fine, fine}
 use Rattle.wires.proofs.Cover.{over-in, over-open, over-wire}
@@ -76,16 +75,12 @@ module _ {pitch ku kl : ℕ} where
 
 -- ---- each change of height has its vertical
 
-twice : (u v : Wire) (ws : List Wire) → ((k : ℕ) → times k (nets (u ∷ ws)) ≤ 1) → List·Memᴰ v ws → u .net ≡ v .net → ⊥
-unfolding times
-twice u v ws o d e = omega (arith, o (v .net), in-nets d, subst (λ k. one (eqb (u .net) k) ≡ 1) e (one-same (u .net)))
-
 -- two wires of one net are one
 one-wire : {v w : Wire} (ws : List Wire) → ((k : ℕ) → times k (nets ws) ≤ 1) → List·Memᴰ v ws → List·Memᴰ w ws → v .net ≡ w .net → v ≡ w
 unfolding times
 one-wire (u ∷ ws) o (List·Memᴰ·head e) (List·Memᴰ·head f) q = e ∙ sym f
-one-wire {v} {w} (u ∷ ws) o (List·Memᴰ·head e) (List·Memᴰ·tail d) q = absurd (twice u w ws o d (ap (λ z. z .net) (sym e) ∙ q))
-one-wire {v} {w} (u ∷ ws) o (List·Memᴰ·tail d) (List·Memᴰ·head f) q = absurd (twice u v ws o d (ap (λ z. z .net) (sym f) ∙ sym q))
+one-wire {v} {w} (u ∷ ws) o (List·Memᴰ·head e) (List·Memᴰ·tail d) q = absurd (other-net {w = u} here (o (w .net)) d (ap (λ z. z .net) (sym e) ∙ q))
+one-wire {v} {w} (u ∷ ws) o (List·Memᴰ·tail d) (List·Memᴰ·head f) q = absurd (other-net {w = u} here (o (v .net)) d (ap (λ z. z .net) (sym f) ∙ sym q))
 one-wire (u ∷ ws) o (List·Memᴰ·tail d) (List·Memᴰ·tail f) q = one-wire ws (λ k. omega (arith, o k)) d f q
 
 -- the event of a film, and what is behind it

@@ -13,7 +13,7 @@ use Rattle.rules.specs.Basic.{pick, put, keep}
 use Rattle.rules.specs.Row.{before, has, Kind, B, M, E, node}
 use Rattle.rules.specs.Street.{next}
 use Rattle.rules.specs.Sheet.{kindIn, Entry, entry, begun, labels}
-use Rattle.rules.specs.Film.{Rec, across, upright, axis, upper, heightAt, draw}
+use Rattle.rules.specs.Film.{Rec, across, upright, axis, upper, heightAt}
 
 -- a node: the wires laid in the upper street, the nets open there from top to bottom, its own among them, and those open after it
 pub record Stop : Type 0 where
