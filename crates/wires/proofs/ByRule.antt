@@ -9,8 +9,6 @@ use Rattle.rules.specs.Sheet.{Entry, labels, upperOf, lowerOf, entriesOf}
 use Rattle.rules.specs.Judgement.{judge}
 use Rattle.rules.specs.Film.{Rec, across, upright, Wire, axis, upper, wall, draw, records}
 use Rattle.rules.proofs.Legal.{Legal}
-use Rattle.rules.proofs.Levels.{upper-min}
-use Rattle.rules.proofs.Accepted.{judge-passed}
 use Rattle.rules.proofs.GivenBack.{length-labels}
 use Rattle.wires.specs.Levels.{own, level, Longest, Over, Ruled, run, move, stub, ByRule}
 use Rattle.wires.proofs.Among.{nil, lt-or-ge}
@@ -19,7 +17,7 @@ use Rattle.wires.proofs.Rules.{filled, on-tracks}
 use Rattle.wires.proofs.Joins as joins
 use Rattle.wires.proofs.Stretches.{film-levels}
 use Rattle.wires.proofs.Verticals.{Upright, a-stub, a-move, uprights, turns, distinct}
-use Rattle.wires.proofs.Obeyed.{none-open, film-trace, takes-le}
+use Rattle.wires.proofs.Obeyed.{none-open, film-trace, sheet-legal}
 
 is-stub : {x l c h : ℕ} (w : Wire) (y : ℕ) → x ≡ w .net → l ≡ min axis (w .height) → c ≡ y → h ≡ max axis (w .height) → upright x l c h ≡ wall y axis w
 unfolding wall
@@ -101,9 +99,12 @@ module _ (pitch ku kl : ℕ) (wide : ku + kl < pitch) (deep : kl ≤ axis) (law 
   by-rule = record { exactly = λ r. (is-ruled r, ruled-is); once = distinct parts }
 
 -- the film of an accepted sheet
-pub sheet-by-rule : (s : List ℕ) → judge s ≡ none → ByRule 16 (upperOf s) (entriesOf s) (records 16 s)
-unfolding records
-sheet-by-rule s accepted =
-    let p = judge-passed s accepted in
-    let t = takes-le (upperOf s) (lowerOf s) (p .tracks) in
-    by-rule 16 (upperOf s) (lowerOf s) (omega arith) (omega arith) (λ a h. upper-min (upperOf s) a (t .0) h) (p .legal)
+module _ (s : List ℕ) (accepted : judge s ≡ none) where
+  pub sheet-by-rule : ByRule 16 (upperOf s) (entriesOf s) (records 16 s)
+  unfolding records
+  sheet-by-rule = let p = sheet-legal s accepted in by-rule 16 (upperOf s) (lowerOf s) (p .wide) (p .deep) (p .law) (p .legal)
+
+  -- over every unit stretch
+  pub sheet-levels : (c x h : ℕ) → Over (records 16 s) x c h ↔ (level 16 (upperOf s) (entriesOf s) x c ≡ some h)
+  unfolding records
+  sheet-levels = let p = sheet-legal s accepted in film-levels 16 (upperOf s) (lowerOf s) (p .wide) (p .deep) (p .law) (p .legal)

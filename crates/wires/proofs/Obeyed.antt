@@ -9,7 +9,7 @@ use native.Mathlib.Omega.{arith}
 use lib.ListN.{getD}
 use lib.Dec.{leb}
 use borrow.Author.Tests.{leb-true}
-use Rattle.rules.specs.Sheet.{takes, Entry, labels, upperOf, lowerOf, rowOf}
+use Rattle.rules.specs.Sheet.{takes, Entry, labels, upperOf, lowerOf, entriesOf, rowOf}
 use Rattle.rules.specs.Judgement.{judge}
 use Rattle.rules.specs.Film.{Wire, axis, upper, wall, draw, records}
 use Rattle.rules.specs.WireRules.{netOf, On, WireRules, Tidy}
@@ -68,7 +68,7 @@ module _ (pitch ku kl : ℕ) (wide : ku + kl < pitch) (deep : kl ≤ axis) (law 
         filled = rules.filled film-steps;
       }
 
-pub takes-le : (ku kl : ℕ) → takes ku kl ≡ true → (ku ≤ 3) × (kl ≤ 3)
+takes-le : (ku kl : ℕ) → takes ku kl ≡ true → (ku ≤ 3) × (kl ≤ 3)
 unfolding takes
 takes-le ku kl e = go (leb ku 3) (leb kl 3) refl refl e
   where
@@ -77,18 +77,24 @@ takes-le ku kl e = go (leb ku 3) (leb kl 3) refl refl e
     go true false ea eb e = let z : _≡_ {A = ℕ} 0 1 = cc in absurd (omega arith)
     go false b ea eb e = let z : _≡_ {A = ℕ} 0 1 = cc in absurd (omega arith)
 
--- the film of an accepted sheet
+-- what the film of an accepted sheet is drawn from
+pub record Sheeted (s : List ℕ) : Type 0 where
+  pub wide : upperOf s + lowerOf s < 16
+  pub deep : lowerOf s ≤ axis
+  pub law : (a : ℕ) → a ≤ upperOf s → upper (upperOf s) (suc a) ≡ min (suc a) (upperOf s)
+  pub legal : Legal (upperOf s) (lowerOf s) 0 (entriesOf s)
+
 module _ (s : List ℕ) (accepted : judge s ≡ none) where
-  pub sheet-rules : WireRules 16 (upperOf s) (lowerOf s) (rowOf s) (records 16 s)
-  unfolding rowOf records
-  sheet-rules =
+  pub sheet-legal : Sheeted s
+  sheet-legal =
       let p = judge-passed s accepted in
       let t = takes-le (upperOf s) (lowerOf s) (p .tracks) in
-      wire-rules 16 (upperOf s) (lowerOf s) (omega arith) (omega arith) (λ a h. upper-min (upperOf s) a (t .0) h) (p .legal)
+      record { wide = omega arith; deep = omega arith; law = λ a h. upper-min (upperOf s) a (t .0) h; legal = p .legal }
+
+  pub sheet-rules : WireRules 16 (upperOf s) (lowerOf s) (rowOf s) (records 16 s)
+  unfolding rowOf records
+  sheet-rules = let p = sheet-legal in wire-rules 16 (upperOf s) (lowerOf s) (p .wide) (p .deep) (p .law) (p .legal)
 
   pub sheet-tidy : Tidy (upperOf s) (lowerOf s) (records 16 s)
   unfolding records
-  sheet-tidy =
-      let p = judge-passed s accepted in
-      let t = takes-le (upperOf s) (lowerOf s) (p .tracks) in
-      tidy 16 (upperOf s) (lowerOf s) (omega arith) (omega arith) (λ a h. upper-min (upperOf s) a (t .0) h) (p .legal)
+  sheet-tidy = let p = sheet-legal in tidy 16 (upperOf s) (lowerOf s) (p .wide) (p .deep) (p .law) (p .legal)
