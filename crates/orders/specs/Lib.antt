@@ -1,1 +1,5 @@
 pub mod Plan
+pub mod Ranks
+pub mod Sets
+pub mod Stops
+pub mod Passes

@@ -1,1 +1,5 @@
 // Sets of orders, as marks on ranks in lent bytes, and the passes of the router over them.
+pub mod pass;
+pub mod rank;
+pub mod reach;
+pub mod set;

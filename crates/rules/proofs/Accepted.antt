@@ -145,12 +145,12 @@ pub record Passed (s : List ℕ) : Type 0 where
   pub legal : Legal (upperOf s) (lowerOf s) 0 (entriesOf s)
   pub clear : paddingOf s ≡ 0
 
-keep-none {ℓ} : {A : Type ℓ} (t : Bool) (a : A) → keep t a ≡ none → t ≡ false
+pub keep-none {ℓ} : {A : Type ℓ} (t : Bool) (a : A) → keep t a ≡ none → t ≡ false
 unfolding keep
 keep-none true a e = let z : _≡_ {A = ℕ} 0 1 = cc in absurd (omega arith)
 keep-none false a e = refl
 
-orElse-none {ℓ} : {A : Type ℓ} (x y : Option A) → orElse x y ≡ none → (x ≡ none) × (y ≡ none)
+pub orElse-none {ℓ} : {A : Type ℓ} (x y : Option A) → orElse x y ≡ none → (x ≡ none) × (y ≡ none)
 unfolding orElse
 orElse-none none y e = (refl, e)
 orElse-none (some a) y e = let z : _≡_ {A = ℕ} 0 1 = cc in absurd (omega arith)
@@ -197,7 +197,7 @@ module _ (s : List ℕ) where
 
 -- ---- the theorem
 
-takes-le : (ku kl : ℕ) → takes ku kl ≡ true → (ku ≤ 3) × (kl ≤ 3)
+pub takes-le : (ku kl : ℕ) → takes ku kl ≡ true → (ku ≤ 3) × (kl ≤ 3)
 unfolding takes
 takes-le ku kl e = go (leb ku 3) (leb kl 3) refl refl e
   where
@@ -206,19 +206,19 @@ takes-le ku kl e = go (leb ku 3) (leb kl 3) refl refl e
     go true false ea eb e = let z : _≡_ {A = ℕ} 0 1 = cc in absurd (omega arith)
     go false b ea eb e = let z : _≡_ {A = ℕ} 0 1 = cc in absurd (omega arith)
 
-count-within : (n : ℕ) → wrongCount n ≡ false → (2 ≤ n) × (n ≤ 512)
+pub count-within : (n : ℕ) → wrongCount n ≡ false → (2 ≤ n) × (n ≤ 512)
 unfolding wrongCount
 count-within n e = let c = or-false (ltb n 2) (ltb 512 n) e in (ltb-false n 2 (c .0), ltb-false 512 n (c .1))
 
-within-count : (n : ℕ) → 2 ≤ n → n ≤ 512 → wrongCount n ≡ false
+pub within-count : (n : ℕ) → 2 ≤ n → n ≤ 512 → wrongCount n ≡ false
 unfolding wrongCount
 within-count n a b = rw (le-ltb n 2 a, le-ltb 512 n b)
 
-le-takes : (ku kl : ℕ) → ku ≤ 3 → kl ≤ 3 → takes ku kl ≡ true
+pub le-takes : (ku kl : ℕ) → ku ≤ 3 → kl ≤ 3 → takes ku kl ≡ true
 unfolding takes
 le-takes ku kl a b = rw (le-leb ku 3 a, le-leb kl 3 b)
 
-length-nodes : (row : List ℕ) → length (nodes row) ≡ length row
+pub length-nodes : (row : List ℕ) → length (nodes row) ≡ length row
 unfolding nodes
 length-nodes row = length-tabulate (nodeAt row) (length row)
 

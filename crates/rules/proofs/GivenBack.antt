@@ -23,7 +23,7 @@ use Rattle.rules.proofs.Runs.{Leads, ends-at, onward-leads}
 use Rattle.rules.proofs.Pins.{at-before, tabulate-cong, length-tabulate}
 use Rattle.rules.proofs.Open.{one, one-same, one-other, times, times-put, times-cut}
 use Rattle.rules.proofs.Legal.{Legal, done, then, code-kindIn}
-use Rattle.rules.proofs.Renamed.{map-put, map-cut, before-map}
+use Rattle.rules.proofs.Renamed.{put-map, cut-map, before-map, home-only}
 
 -- ---- lists: where a number that is in one stands
 
@@ -418,21 +418,14 @@ module _ (r : List ℕ) where
   at-home : ℕ → ℕ
   at-home x = before x r
 
-  -- labels that stand in r have different first nodes
-  at-home-inj : (x y : ℕ) → 0 < times x r → 0 < times y r → at-home y ≡ at-home x → y ≡ x
-  unfolding at-home
-  at-home-inj x y tx ty e = sym (found y ty) ∙ ap (λ k. getD r k 0) e ∙ found x tx
-    where
-      found : (z : ℕ) → 0 < times z r → getD r (before z r) 0 ≡ z
-      found z t = at-before z r (rw append-nil at (before-in z r [] t))
-
   -- the street rules at a legal entry, its nets known by their first nodes
   touched : (a : ℕ) (o : List ℕ) → ((x : ℕ) → times x o ≤ 1) → ((x : ℕ) → 0 < times x o → 0 < times x r) → a < length o
       → T (eqb (suc a) (suc (before (at-home (getD o a 0)) (map at-home o))))
+  unfolding at-home
   touched a o once seen h =
       let x : ℕ = getD o a 0 in
       let e : before (at-home x) (map at-home o) ≡ a =
-      before-map at-home x o (λ y t. at-home-inj x y (seen x (times-at o a h)) (seen y t)) ∙ before-once o once a h in
+      before-map at-home x (home-only r x (rw append-nil at (before-in x r [] (seen x (times-at o a h))))) o ∙ before-once o once a h in
       rw e (eqb-refl (suc a))
 
   stands-back : (k : Kind) (a n : ℕ) (o : List ℕ) → ((x : ℕ) → times x o ≤ 1) → ((x : ℕ) → 0 < times x o → 0 < times x r) → a < counted k (length o)
@@ -445,9 +438,9 @@ module _ (r : List ℕ) where
   next-back : (k : Kind) (a n : ℕ) (o : List ℕ)
       → next (node k (at-home (labelled k a n o))) (map at-home o) (suc a) ≡ map at-home (then-order k a n o)
   unfolding next labelled
-  next-back B a n o = sym (map-put at-home (suc a - 1) n o)
+  next-back B a n o = put-map at-home (suc a - 1) n o
   next-back M a n o = refl
-  next-back E a n o = sym (map-cut at-home (suc a - 1) o)
+  next-back E a n o = cut-map at-home (suc a - 1) o
 
 module _ (ku kl : ℕ) where
   -- the entries' positions are a placing of the row's nodes

@@ -8,6 +8,7 @@ pub mod Search
 pub mod Failing
 pub mod Choices
 pub mod Pins
+pub mod PinsTest
 pub mod Open
 pub mod NoPlacing
 pub mod Legal
@@ -15,5 +16,6 @@ pub mod Renamed
 pub mod GivenBack
 pub mod SheetFields
 pub mod Accepted
+pub mod Demand3
 pub mod Levels
 pub mod Specimens

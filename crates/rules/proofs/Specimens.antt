@@ -1,7 +1,7 @@
 -- S1 to S12 of document 01 hold for the definitions, and so do some films and refusals more: antt computes each.
 use mathlib.Core.Bool.{Bool, true, false, _&&_}
 use mathlib.Core.List.{List, [], _∷_, _++_}
-use Prim.Native.Nat.{ℕ, _+_, _*_}
+use Prim.Native.Nat.{ℕ, _+_, _-_, _*_}
 use lib.ListN.{length, replicate}
 use lib.Dec.{T, eqb}
 use Rattle.rules.specs.Basic.{pick, tabulate, every, least, put, cut, keep, andThen, orElse, isNone, settle}
@@ -25,6 +25,8 @@ data Fact : Type 0 where
   refused : (sheet : List ℕ) (number place : ℕ) → Fact
   -- the sheet's film has these records and no others
   draws : (sheet : List ℕ) (film : List Rec) → Fact
+  -- the sheet is refused where the row's or the film's buffer is a byte short, and not where it is exact
+  tight : (sheet : List ℕ) → Fact
   -- the record's five bytes
   packs : Rec → (bytes : List ℕ) → Fact
 
@@ -58,11 +60,14 @@ buffer n = replicate n 0xa5
 holds : Fact → Bool
 holds (routes row ku kl s) =
     let n = length row in
+    let work = buffer (90 * n + 1) in
     let out = buffer (size n + 3) in
-    let answer = routing row ku kl (buffer (90 * n)) out in
+    let answer = routing row ku kl work out in
     let r = reading s (buffer (n + 2)) in
-    sameSaid (routeSaid answer) 0 n && (same (sheetAfter answer row ku kl out) (s ++ buffer 3)
-    && (sameSaid (readSaid r) 0 n && (same (rowAfter r s (buffer (n + 2))) (rowOf s ++ buffer 2) && agrees row s)))
+    sameSaid (routeSaid answer) 0 n
+    && (same (sheetAfter answer row ku kl out) (s ++ buffer 3)
+    && (same (workAfter answer row work) (replicate (90 * n) 0 ++ buffer 1)
+    && (sameSaid (readSaid r) 0 n && (same (rowAfter r s (buffer (n + 2))) (rowOf s ++ buffer 2) && agrees row s))))
 holds (places row ku kl ps) =
     let n = length row in
     let answer = routing row ku kl (buffer (90 * n)) (buffer (size n)) in
@@ -75,6 +80,12 @@ holds (refused s number place) =
 holds (draws s film) =
     let k = length film in
     sameSaid (drawSaid (drawing s (buffer (5 * k)))) 0 k && (once film film (records 16 s) && once (records 16 s) film (records 16 s))
+holds (tight s) =
+    let n = countOf s in
+    let k = 5 * length (records 16 s) in
+    sameSaid (readSaid (reading s (buffer (n - 1)))) 14 0
+    && (sameSaid (readSaid (reading s (buffer n))) 0 n
+    && (sameSaid (drawSaid (drawing s (buffer (k - 1)))) 21 0 && sameSaid (drawSaid (drawing s (buffer k))) 0 (length (records 16 s))))
 holds (packs r b) = same (bytes (recBits r)) b
 
 all : List Fact → Bool
@@ -145,7 +156,7 @@ films =
     ∷ across 2 5 32 48 ∷ upright 2 4 48 5 ∷ upright 3 4 64 5 ∷ across 3 5 64 112 ∷ upright 3 4 112 5 ∷ [])
     ∷ []
 
--- each cause of a refused sheet: 11, 12, 13, 15, 16, the three limits, 18, 19
+-- each cause of a refused sheet: 11, 12, 13, 15, 16, the three limits, 18, 19; then 14 and 21
 causes : List Fact
 causes =
     refused [] 11 0
@@ -155,12 +166,13 @@ causes =
     ∷ refused (0x10 ∷ 0x02 ∷ 0x02 ∷ 0x00 ∷ 0x00 ∷ []) 13 0
     ∷ refused (0x10 ∷ 0x02 ∷ 0x03 ∷ 0x00 ∷ []) 15 2
     ∷ refused (0x10 ∷ 0x02 ∷ 0x82 ∷ 0x00 ∷ []) 16 1
-    ∷ refused (0x10 ∷ 0x02 ∷ 0x04 ∷ 0x00 ∷ []) 16 1
+    ∷ refused (0x00 ∷ 0x02 ∷ 0x04 ∷ 0x00 ∷ []) 16 1
     ∷ refused (0x08 ∷ 0x04 ∷ 0x00 ∷ 0x18 ∷ 0x20 ∷ []) 17 2
     ∷ refused (0x3c ∷ 0x08 ∷ 0x00 ∷ 0x00 ∷ 0x00 ∷ 0x00 ∷ 0x00 ∷ 0x20 ∷ []) 17 5
     ∷ refused (0x14 ∷ 0x04 ∷ 0x00 ∷ 0x00 ∷ 0x60 ∷ []) 17 3
     ∷ refused (0x10 ∷ 0x02 ∷ 0x01 ∷ 0x00 ∷ []) 18 2
     ∷ refused (0x10 ∷ 0x02 ∷ 0x02 ∷ 0x08 ∷ []) 19 0
+    ∷ tight (0x14 ∷ 0x04 ∷ 0x00 ∷ 0x08 ∷ 0x60 ∷ [])
     ∷ []
 
 specimens-hold : T (all (specimens ++ (films ++ causes)))

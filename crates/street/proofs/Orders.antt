@@ -1,4 +1,4 @@
--- Laws of lists into which a thing is put, from which one is cut, and in which one is looked for.
+-- Loops that put a thing into the first places of an array, cut one out, and look for one.
 use mathlib.Core.Path.{_≡_, refl, ap}
 use mathlib.Core.List.{List, [], _∷_}
 use Prim.Native.Nat.{ℕ, zero, suc, _≤_, _<_, zero-le}
@@ -14,63 +14,6 @@ use Rattle.street.specs.declared.Order.{Order}
 use Rattle.street.specs.Order.{listed, Sound}
 
 module _ {ℓ} {A : Type ℓ} where
-  -- how long a list is then
-
-  pub length-put : (k : ℕ) (x : A) (l : List A) → length (put k x l) ≡ suc (length l)
-  unfolding put
-  length-put zero x l = refl
-  length-put (suc k) x [] = refl
-  length-put (suc k) x (y ∷ l) = ap suc (length-put k x l)
-
-  pub length-cut : (k : ℕ) (l : List A) → k < length l → suc (length (cut k l)) ≡ length l
-  unfolding cut
-  length-cut k [] h = absurd (not-suc-le-zero h)
-  length-cut zero (y ∷ l) h = refl
-  length-cut (suc k) (y ∷ l) h = ap suc (length-cut k l (le-of-suc-le-suc h))
-
-  -- what stands where: before the place, at it, and behind it
-
-  pub getD-put-before : (k i : ℕ) (x d : A) (l : List A) → i < k → k ≤ length l → getD (put k x l) i d ≡ getD l i d
-  unfolding put
-  getD-put-before zero i x d l h w = absurd (not-suc-le-zero h)
-  getD-put-before (suc k) i x d [] h w = absurd (not-suc-le-zero w)
-  getD-put-before (suc k) zero x d (y ∷ l) h w = refl
-  getD-put-before (suc k) (suc i) x d (y ∷ l) h w = getD-put-before k i x d l (le-of-suc-le-suc h) (le-of-suc-le-suc w)
-
-  pub getD-put : (k : ℕ) (x d : A) (l : List A) → k ≤ length l → getD (put k x l) k d ≡ x
-  unfolding put
-  getD-put zero x d l w = refl
-  getD-put (suc k) x d [] w = absurd (not-suc-le-zero w)
-  getD-put (suc k) x d (y ∷ l) w = getD-put k x d l (le-of-suc-le-suc w)
-
-  pub getD-put-behind : (k i : ℕ) (x d : A) (l : List A) → k ≤ i → getD (put k x l) (suc i) d ≡ getD l i d
-  unfolding put
-  getD-put-behind zero i x d l h = refl
-  getD-put-behind (suc k) i x d [] h = refl
-  getD-put-behind (suc k) zero x d (y ∷ l) h = absurd (not-suc-le-zero h)
-  getD-put-behind (suc k) (suc i) x d (y ∷ l) h = getD-put-behind k i x d l (le-of-suc-le-suc h)
-
-  pub getD-cut-before : (k i : ℕ) (d : A) (l : List A) → i < k → getD (cut k l) i d ≡ getD l i d
-  unfolding cut
-  getD-cut-before k i d [] h = refl
-  getD-cut-before zero i d (y ∷ l) h = absurd (not-suc-le-zero h)
-  getD-cut-before (suc k) zero d (y ∷ l) h = refl
-  getD-cut-before (suc k) (suc i) d (y ∷ l) h = getD-cut-before k i d l (le-of-suc-le-suc h)
-
-  pub getD-cut-behind : (k i : ℕ) (d : A) (l : List A) → k ≤ i → getD (cut k l) i d ≡ getD l (suc i) d
-  unfolding cut
-  getD-cut-behind k i d [] h = refl
-  getD-cut-behind zero i d (y ∷ l) h = refl
-  getD-cut-behind (suc k) zero d (y ∷ l) h = absurd (not-suc-le-zero h)
-  getD-cut-behind (suc k) (suc i) d (y ∷ l) h = getD-cut-behind k i d l (le-of-suc-le-suc h)
-
-  -- what was put and is cut again
-  pub cut-put : (k : ℕ) (x : A) (l : List A) → k ≤ length l → cut k (put k x l) ≡ l
-  unfolding put cut
-  cut-put zero x l w = refl
-  cut-put (suc k) x [] w = absurd (not-suc-le-zero w)
-  cut-put (suc k) x (y ∷ l) w = ap (λ (r : List A). y ∷ r) (cut-put k x l (le-of-suc-le-suc w))
-
   -- a loop that puts: each place of the first n takes what is carried and hands on what it held
   pub put-carried : (n i : ℕ) (x d : A) (l : List A) → i < n → n ≤ length l
       → put (suc i) (getD l i d) (take n (set l i x)) ≡ put i x (take n l)
@@ -130,23 +73,6 @@ before-at x i l h e = rw (drop-cons l i 0 h) (before-here x (getD l i 0) (drop (
 pub before-past : (x i : ℕ) (l : List ℕ) → i < length l → (getD l i 0 ≡ x → ⊥)
     → before x (drop i l) ≡ suc (before x (drop (suc i) l))
 before-past x i l h n = rw (drop-cons l i 0 h) (before-there x (getD l i 0) (drop (suc i) l) n)
-
-pub before-le : (x : ℕ) (l : List ℕ) → before x l ≤ length l
-before-le x [] = rw (before-none x) zero-le
-before-le x (y ∷ l) = go (before-le x l) (ℕ-discrete y x)
-  where
-    go : before x l ≤ length l → Dec (y ≡ x) → before x (y ∷ l) ≤ length (y ∷ l)
-    go h (yes e) = omega (arith, before-here x y l e)
-    go h (no n) = omega (arith, before-there x y l n)
-
--- where x stands in the list, what is found is x
-pub getD-before : (x d : ℕ) (l : List ℕ) → before x l < length l → getD l (before x l) d ≡ x
-getD-before x d [] h = absurd (not-suc-le-zero h)
-getD-before x d (y ∷ l) h = go (getD-before x d l) (ℕ-discrete y x)
-  where
-    go : (before x l < length l → getD l (before x l) d ≡ x) → Dec (y ≡ x) → getD (y ∷ l) (before x (y ∷ l)) d ≡ x
-    go r (yes e) = rw (before-here x y l e) e
-    go r (no n) = rw (before-there x y l n) (r (omega (arith, before-there x y l n)))
 
 -- the list of an order is as long as the order counts
 pub length-listed : (o : Order) → Sound o → length (listed o) ≡ o .count

@@ -16,7 +16,7 @@ use Rattle.rules.specs.Film.{Rec, Wire, axis, upper, heightAt, target, wall, cl
 use Rattle.rules.proofs.Fits.{Fits}
 use Rattle.rules.proofs.Lists.{length-put, cut-put}
 use Rattle.rules.proofs.Open.{one-same, one-other, times}
-use Rattle.rules.proofs.Renamed.{map-put, map-cut}
+use Rattle.rules.proofs.Renamed.{put-map, cut-map}
 use Rattle.rules.proofs.Legal.{Legal, done, then}
 use Rattle.rules.proofs.GivenBack.{times-at, times-begin, times-end, one-pos, then-order, length-then, gone}
 use Rattle.wires.specs.Levels.{own}
@@ -139,9 +139,9 @@ module _ {pitch ku kl u a : ℕ} where
 
 closed-nets : (k : Kind) (a n h x : ℕ) (ws : List Wire) → nets (closed k a (opened k n h x a ws)) ≡ then-order k a n (nets ws)
 unfolding closed opened next
-closed-nets B a n h x ws = map-put (λ w. w .net) a (record { net = n; height = h; since = x }) ws ∙ ap (λ k. put k n (nets ws)) (omega arith)
+closed-nets B a n h x ws = sym (put-map (λ w. w .net) a (record { net = n; height = h; since = x }) ws) ∙ ap (λ k. put k n (nets ws)) (omega arith)
 closed-nets M a n h x ws = refl
-closed-nets E a n h x ws = map-cut (λ w. w .net) a ws ∙ ap (λ k. cut k (nets ws)) (omega arith)
+closed-nets E a n h x ws = sym (cut-map (λ w. w .net) a ws) ∙ ap (λ k. cut k (nets ws)) (omega arith)
 
 pub closed-falling : (k : Kind) (a : ℕ) (ws : List Wire) → Falling ws → Falling (closed k a ws)
 unfolding closed

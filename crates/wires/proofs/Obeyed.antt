@@ -1,22 +1,19 @@
 -- The film of legal entries obeys the wire rules, for any pitch larger than the number of wires that can be open, and is tidy; so is
 -- that of every accepted sheet.
 use mathlib.Core.Path.{_≡_, refl, sym, _∙_}
-use mathlib.Core.Bool.{Bool, true, false, _&&_}
 use mathlib.Core.List.{List, []}
 use mathlib.Core.Option.{none}
 use Prim.Native.Nat.{ℕ, suc, _+_, _*_, _≤_, _<_, min}
 use native.Mathlib.Omega.{arith}
 use lib.ListN.{getD}
-use lib.Dec.{leb}
-use borrow.Author.Tests.{leb-true}
-use Rattle.rules.specs.Sheet.{takes, Entry, labels, upperOf, lowerOf, entriesOf, rowOf}
+use Rattle.rules.specs.Sheet.{Entry, labels, upperOf, lowerOf, entriesOf, rowOf}
 use Rattle.rules.specs.Judgement.{judge}
 use Rattle.rules.specs.Film.{Wire, axis, upper, wall, draw, records}
 use Rattle.rules.specs.WireRules.{netOf, On, WireRules, Tidy}
 use Rattle.rules.proofs.Open.{times}
 use Rattle.rules.proofs.Legal.{Legal}
 use Rattle.rules.proofs.Levels.{upper-min}
-use Rattle.rules.proofs.Accepted.{judge-passed}
+use Rattle.rules.proofs.Accepted.{judge-passed, takes-le}
 use Rattle.wires.specs.Levels.{own}
 use Rattle.wires.proofs.Among.{nil}
 use Rattle.wires.proofs.Gap.{bare}
@@ -67,15 +64,6 @@ module _ (pitch ku kl : ℕ) (wide : ku + kl < pitch) (deep : kl ≤ axis) (law 
         tall = rules.tall film-steps nil;
         filled = rules.filled film-steps;
       }
-
-takes-le : (ku kl : ℕ) → takes ku kl ≡ true → (ku ≤ 3) × (kl ≤ 3)
-unfolding takes
-takes-le ku kl e = go (leb ku 3) (leb kl 3) refl refl e
-  where
-    go : (a b : Bool) → leb ku 3 ≡ a → leb kl 3 ≡ b → a && b ≡ true → (ku ≤ 3) × (kl ≤ 3)
-    go true true ea eb e = (leb-true ku 3 ea, leb-true kl 3 eb)
-    go true false ea eb e = let z : _≡_ {A = ℕ} 0 1 = cc in absurd (omega arith)
-    go false b ea eb e = let z : _≡_ {A = ℕ} 0 1 = cc in absurd (omega arith)
 
 -- what the film of an accepted sheet is drawn from
 pub record Sheeted (s : List ℕ) : Type 0 where

@@ -18,7 +18,7 @@ use Rattle.rules.specs.Judgement.{left}
 use Rattle.rules.specs.Film.{Rec, across, Wire, axis, upper, heightAt, target, ran, wall, bent, climb, sink, gap, opened, closed, ending, draw}
 use Rattle.rules.proofs.Fits.{Fits}
 use Rattle.rules.proofs.Open.{one-other, times}
-use Rattle.rules.proofs.Renamed.{map-put}
+use Rattle.rules.proofs.Renamed.{put-map}
 use Rattle.rules.proofs.Legal.{Legal, done, then}
 use Rattle.rules.proofs.GivenBack.{before-once, has-in, has-out, then-order}
 use Rattle.wires.specs.Levels.{Stop, present, stops, heightIn, turnAt, levelIn, levelAt, Over}
@@ -52,7 +52,7 @@ settled-in u ws s once = all-index ws d place
 
 opened-nets : (k : Kind) (n h x a : ℕ) (ws : List Wire) → nets (opened k n h x a ws) ≡ present k a n (nets ws)
 unfolding opened present
-opened-nets B n h x a ws = map-put (λ w. w .net) a (record { net = n; height = h; since = x }) ws
+opened-nets B n h x a ws = sym (put-map (λ w. w .net) a (record { net = n; height = h; since = x }) ws)
 opened-nets M n h x a ws = refl
 opened-nets E n h x a ws = refl
 

@@ -10,7 +10,8 @@ use lib.ListN.{length, take, drop}
 use lib.Seq.{getD-take}
 use Rattle.rules.specs.Row.{before}
 use Rattle.street.specs.Order.{listed}
-use Rattle.street.proofs.Orders.{before-at, before-past, before-le, length-listed}
+use Rattle.rules.proofs.Lists.{before-le}
+use Rattle.street.proofs.Orders.{before-at, before-past, length-listed}
 use Rattle.street.proofs.Order.find.Statement.{statement}
 use Rattle.street.proofs.Order.find.Tie as tie
 

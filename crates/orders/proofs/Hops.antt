@@ -1,0 +1,151 @@
+-- A hop is made exactly where the street rules allow it, and leads to a rank of the nets that are then open.
+use mathlib.Core.Path.{_≡_, refl}
+use mathlib.Core.Bool.{Bool, true, false, _&&_}
+use mathlib.Core.Option.{Option, none, some}
+use Prim.Native.Nat.{ℕ, zero, suc, _+_, _*_, _≤_, _<_}
+use native.Mathlib.Omega.{arith}
+use lib.Dec.{T, eqb}
+use borrow.Author.Tests.{eq-eqb, ne-eqb}
+use Rattle.rules.specs.Basic.{keep}
+use Rattle.rules.specs.Street.{fits}
+use Rattle.rules.specs.Sheet.{kindIn}
+use Rattle.rules.specs.Judgement.{left}
+use Rattle.rules.proofs.Fits.{Fits, fits→, →fits}
+use Rattle.orders.specs.Plan.{step}
+use Rattle.orders.specs.Ranks.{capacity, fact, atOf, lessOf, hopOf}
+use Rattle.orders.specs.Sets.{ranks}
+use Rattle.orders.specs.Stops.{hopAt, told, Sound}
+use Rattle.orders.specs.declared.rank.Stop.{Stop}
+use Rattle.orders.specs.declared.rank.Landing.the-variants.{To, Nowhere}
+use Rattle.orders.proofs.Ranks.{rank-lt, less-lt, fact-six}
+
+pub of-true : {b : Bool} → b ≡ true → T b
+of-true e = rw e tt
+
+pub to-true : (b : Bool) → T b → b ≡ true
+to-true true t = refl
+to-true false t = absurd t
+
+module _ (ku kl p b : ℕ) where
+  pub fits-fits : fits ku kl p b ≡ true → Fits ku kl p b
+  fits-fits e = fits→ ku kl p b (of-true e)
+
+  pub fitting : Fits ku kl p b → fits ku kl p b ≡ true
+  fitting f = to-true (fits ku kl p b) (→fits ku kl p b f)
+
+  pub unfit : (Fits ku kl p b → ⊥) → fits ku kl p b ≡ false
+  unfit n = go (fits ku kl p b) refl
+    where
+      go : (t : Bool) → fits ku kl p b ≡ t → t ≡ false
+      go true e = absurd (n (fits-fits e))
+      go false e = refl
+
+module _ (ku kl k a b r p : ℕ) where
+  abbrev here : Option ℕ
+  here = hopOf ku kl (step k a b) r p
+
+  pub hop-begins : k ≡ 0 → fits ku kl (suc p) (suc b) ≡ true → here ≡ some (p * fact b + r)
+  unfolding hopOf keep
+  hop-begins e f = rw (e, f)
+
+  pub hop-unbegun : k ≡ 0 → fits ku kl (suc p) (suc b) ≡ false → here ≡ none
+  unfolding hopOf keep
+  hop-unbegun e f = rw (e, f)
+
+  pub hop-meets : k ≡ 1 → p ≡ atOf a b r → fits ku kl (suc p) b ≡ true → here ≡ some r
+  unfolding hopOf keep
+  hop-meets e q f = rw (e, eq-eqb p (atOf a b r) q, f)
+
+  pub hop-ends : k ≡ 2 → p ≡ atOf a b r → fits ku kl (suc p) b ≡ true → here ≡ some (lessOf a b r)
+  unfolding hopOf keep
+  hop-ends e q f = rw (e, eq-eqb p (atOf a b r) q, f)
+
+pub hop-elsewhere : (ku kl k a b r p : ℕ) → 0 < k → (p ≡ atOf a b r → ⊥) → hopOf ku kl (step k a b) r p ≡ none
+unfolding hopOf keep
+hop-elsewhere ku kl zero a b r p h n = absurd (omega arith)
+hop-elsewhere ku kl (suc zero) a b r p h n = rw (ne-eqb p (atOf a b r) n)
+hop-elsewhere ku kl (suc (suc zero)) a b r p h n = rw (ne-eqb p (atOf a b r) n)
+hop-elsewhere ku kl (suc (suc (suc k))) a b r p h n = refl
+
+no-keep : {A : Type 0} (t f : Bool) (x : A) → f ≡ false → keep (t && f) x ≡ none
+unfolding keep
+no-keep true f x e = rw e
+no-keep false f x e = refl
+
+pub hop-unmet : (ku kl k a b r p : ℕ) → 0 < k → fits ku kl (suc p) b ≡ false → hopOf ku kl (step k a b) r p ≡ none
+unfolding hopOf
+hop-unmet ku kl zero a b r p h n = absurd (omega arith)
+hop-unmet ku kl (suc zero) a b r p h n = no-keep (eqb p (atOf a b r)) (fits ku kl (suc p) b) r n
+hop-unmet ku kl (suc (suc zero)) a b r p h n = no-keep (eqb p (atOf a b r)) (fits ku kl (suc p) b) (lessOf a b r) n
+hop-unmet ku kl (suc (suc (suc k))) a b r p h n = refl
+
+pub hop-unknown : (ku kl k a b r p : ℕ) → 3 ≤ k → hopOf ku kl (step k a b) r p ≡ none
+unfolding hopOf
+hop-unknown ku kl zero a b r p h = absurd (omega arith)
+hop-unknown ku kl (suc zero) a b r p h = absurd (omega arith)
+hop-unknown ku kl (suc (suc zero)) a b r p h = absurd (omega arith)
+hop-unknown ku kl (suc (suc (suc k))) a b r p h = refl
+
+-- what fits has room in two streets of three tracks
+pub fit-small : (ku kl p b : ℕ) → fits ku kl (suc p) b ≡ true → ku ≤ 3 → kl ≤ 3 → (p ≤ 5) × (b ≤ 6)
+fit-small ku kl p b e hu hl =
+    let f : Fits ku kl (suc p) b = fits-fits ku kl (suc p) b e in
+    omega arith
+
+-- what a hop that is made says
+pub record Made (ku kl k a b r p x : ℕ) : Type 0 where
+  pub kind : k < 3
+  pub room : p < ku + kl
+  pub left-open : left (kindIn k) b ≤ ku + kl
+  pub lands : (0 < k → a < b) → r < fact b → x < fact (left (kindIn k) b)
+
+kept : {A : Type 0} (t : Bool) (x y : A) → keep t x ≡ some y → (t ≡ true) × (x ≡ y)
+unfolding keep
+kept true x y e = (refl, (cc))
+kept false x y e = let z : _≡_ {A = ℕ} 0 1 = cc in absurd (omega arith)
+
+both : (s t : Bool) → s && t ≡ true → (s ≡ true) × (t ≡ true)
+both true t e = (refl, e)
+both false t e = let z : _≡_ {A = ℕ} 0 1 = cc in absurd (omega arith)
+
+pub hop-made : (ku kl k a b r p x : ℕ) → hopOf ku kl (step k a b) r p ≡ some x → Made ku kl k a b r p x
+unfolding hopOf left kindIn
+hop-made ku kl zero a b r p x e =
+    let (t, q) = kept (fits ku kl (suc p) (suc b)) (p * fact b + r) x e in
+    let f : Fits ku kl (suc p) (suc b) = fits-fits ku kl (suc p) (suc b) t in
+    record { kind = omega arith; room = omega arith; left-open = omega arith; lands = λ h l. rw (← q) (rank-lt p b r (omega arith) l) }
+hop-made ku kl (suc zero) a b r p x e =
+    let (t, q) = kept (eqb p (atOf a b r) && fits ku kl (suc p) b) r x e in
+    let f : Fits ku kl (suc p) b = fits-fits ku kl (suc p) b (both (eqb p (atOf a b r)) (fits ku kl (suc p) b) t .1) in
+    record { kind = omega arith; room = omega arith; left-open = omega arith; lands = λ h l. rw (← q) l }
+hop-made ku kl (suc (suc zero)) a b r p x e =
+    let (t, q) = kept (eqb p (atOf a b r) && fits ku kl (suc p) b) (lessOf a b r) x e in
+    let f : Fits ku kl (suc p) b = fits-fits ku kl (suc p) b (both (eqb p (atOf a b r)) (fits ku kl (suc p) b) t .1) in
+    record {
+      kind = omega arith;
+      room = omega arith;
+      left-open = omega arith;
+      lands = λ h l. rw (← q)
+          (less-lt a b r (h (omega arith)) l);
+    }
+hop-made ku kl (suc (suc (suc k))) a b r p x e = let z : _≡_ {A = ℕ} 0 1 = cc in absurd (omega arith)
+
+-- at a sound stop a hop has one of six capacity, and lands on a rank of the gap
+pub stop-lands : (t : Stop) (r p x : ℕ) → Sound t → r < fact (t .count) → hopAt t r p ≡ some x → (p < capacity) × (x < ranks)
+stop-lands t r p x h l e =
+    let m = hop-made (t .ku) (t .kl) (t .kind) (t .age) (t .count) r p x e in
+    (omega arith, omega (arith, m .lands (h .touched) l, fact-six (left (kindIn (t .kind)) (t .count)) (omega arith)))
+
+pub told-to : (o : Option ℕ) (x : ℕ) → To x ≡ told o → o ≡ some x
+told-to none x e = let z : _≡_ {A = ℕ} 0 1 = cc in absurd (omega arith)
+told-to (some y) x e = cc
+
+pub told-nowhere : (o : Option ℕ) → Nowhere ≡ told o → o ≡ none
+told-nowhere none e = refl
+told-nowhere (some y) e = let z : _≡_ {A = ℕ} 0 1 = cc in absurd (omega arith)
+
+pub none-some : {A : Type 0} {o : Option ℕ} {x : ℕ} → o ≡ none → o ≡ some x → A
+none-some e f = let z : _≡_ {A = ℕ} 0 1 = cc in absurd (omega arith)
+
+pub same-some : {o : Option ℕ} {x y : ℕ} → o ≡ some x → o ≡ some y → x ≡ y
+same-some e f = cc

@@ -1,0 +1,11 @@
+pub mod Ranks
+pub mod Hops
+pub mod Bits
+pub mod Gains
+pub mod Ways
+pub mod Spreading
+pub mod Nodes
+pub mod Filling
+pub mod Pruning
+pub mod Picking
+pub mod Joining

@@ -1,0 +1,167 @@
+-- Ranks of a gap looked at one by one are left exactly where the next node leads on; gap by gap, from the last, so that all the rest can be passed.
+use mathlib.Core.Path.{_≡_, refl, sym, ap, _∙_}
+use mathlib.Core.Bool.{Bool, true, false}
+use mathlib.Core.List.{List}
+use Prim.Native.Nat.{ℕ, suc, _+_, _≤_, _<_}
+use native.Mathlib.Omega.{arith}
+use lib.ListN.{length, getD, drop, drop-of-length-le}
+use lib.Dec.{eqb}
+use borrow.Author.Tests.{eqb-true, eqb-false}
+use Rattle.orders.specs.declared.rank.Stop.{Stop}
+use Rattle.orders.specs.Plan.{Step, steps}
+use Rattle.orders.specs.Ranks.{fact, Ahead}
+use Rattle.orders.specs.Sets.{ranks, marked, Set, Loses}
+use Rattle.orders.specs.Stops.{stopOf}
+use Rattle.orders.specs.Passes.{Onward, Misses, Least, Given, Filled, Pruned}
+use Rattle.orders.proofs.Bits.{not-both}
+use Rattle.orders.proofs.Gains.{loses-none, loses-map, loses-one, loses-join}
+use Rattle.orders.proofs.Spreading.{last-or}
+use Rattle.orders.proofs.Ways.{ahead-none, steps-length}
+use Rattle.orders.proofs.Nodes.{way-on, ahead-on, ahead-back, stop-ready, rank-below}
+
+-- a number from g on is g or above it
+at-or : {P : Type 0} (h g : ℕ) → g ≤ h → (h ≡ g → P) → (g < h → P) → P
+at-or {P} h g l p q = go (eqb h g) refl
+  where
+    go : (b : Bool) → eqb h g ≡ b → P
+    go true e = p (eqb-true h g e)
+    go false e = q (omega (arith, eqb-false h g e))
+
+-- one rank r of gap g, with the marks of gap h, the next, to land on
+module _ (s : List ℕ) (g h r : ℕ) (t : Stop) (eh : h ≡ suc g) where
+  pub rank-absent : marked s g r ≡ false → Loses s g (λ x. x ≡ r → Onward t s (suc g) x) s
+  rank-absent f = loses-none s g (λ x. x ≡ r → Onward t s (suc g) x) (λ x e m. absurd (not-both (rw m f) e))
+
+  pub rank-goes : (p x : ℕ) → Least t s h r p x → Loses s g (λ x. x ≡ r → Onward t s (suc g) x) s
+  rank-goes p x l =
+      let m = l .lands in
+      let o : Onward t s h r =
+      record { next = x; within = m .within; leads = record { at = p; lands = m .lands }; kept = m .kept } in
+      let n : Onward t s (suc g) r = rw eh at o in
+      loses-none s g (λ x. x ≡ r → Onward t s (suc g) x) (λ x e m. rw m n)
+
+  pub rank-stuck : (u : List ℕ) → ((q : ℕ) → Misses t s h r q) → Set s g r false u → Loses s g (λ x. x ≡ r → Onward t s (suc g) x) u
+  rank-stuck u m a =
+      loses-one s g r (Onward t s (suc g)) u (λ o. let n : Onward t s h r = rw eh o in m (n .leads .at) (n .next) (n .leads .lands)
+      (n .kept)) a
+
+-- the ranks of gap g below k are looked at
+module _ (s : List ℕ) (g : ℕ) (t : Stop) where
+  pub ranks-start : Loses s g (λ x. x < 0 → Onward t s (suc g) x) s
+  ranks-start = loses-none s g (λ x. x < 0 → Onward t s (suc g) x) (λ x e l. absurd (omega arith))
+
+  pub ranks-step : (k : ℕ) (u v : List ℕ) → Loses s g (λ x. x < k → Onward t s (suc g) x) u →
+      Loses u g (λ x. x ≡ k → Onward t u (suc g) x) v →
+      Loses s g (λ x. x < k + 1 → Onward t s (suc g) x) v
+  ranks-step k u v a b =
+      loses-map s g (λ x. (x < k → Onward t s (suc g) x) × (x ≡ k → Onward t u (suc g) x)) (λ x. x < k + 1 → Onward t s (suc g) x) v
+      (λ x l e p h. last-or (Onward t s (suc g) x) x k h (λ m. back x (p .1 m)) (p .0))
+      (λ x l e q. ((λ h. q (omega arith)), (λ m. fore x (q (omega arith)))))
+      (loses-join s g (λ x. x < k → Onward t s (suc g) x) (λ x. x ≡ k → Onward t u (suc g) x) u v a b)
+    where
+      same : (x : ℕ) → x < ranks → marked u (suc g) x ≡ marked s (suc g) x
+      same x l = a .others (suc g) x l (λ e. omega arith)
+
+      back : (x : ℕ) → Onward t u (suc g) x → Onward t s (suc g) x
+      back x o =
+          record { next = o .next; within = o .within; leads = o .leads; kept = sym (same (o .next) (o .within)) ∙ o .kept }
+
+      fore : (x : ℕ) → Onward t s (suc g) x → Onward t u (suc g) x
+      fore x o = record { next = o .next; within = o .within; leads = o .leads; kept = same (o .next) (o .within) ∙ o .kept }
+
+  pub ranks-end : (k : ℕ) (u : List ℕ) → ((x : ℕ) → x < ranks → marked s g x ≡ true → x < k) →
+      Loses s g (λ x. x < k → Onward t s (suc g) x) u → Loses s g (Onward t s (suc g)) u
+  ranks-end k u f a =
+      loses-map s g (λ x. x < k → Onward t s (suc g) x) (Onward t s (suc g)) u (λ x l e p. p (f x l e)) (λ x l e o h. o) a
+
+-- the gaps from that before node i on are pruned, those before it are as they were
+pub record Prunes (ks xs cs : List ℕ) (ku kl : ℕ) (s₀ : List ℕ) (i : ℕ) (s : List ℕ) : Type 0 where
+  pub long : length s ≡ length s₀
+  pub node : i ≤ length ks
+  pub early : (g x : ℕ) → suc g < i → x < ranks → marked s g x ≡ marked s₀ g x
+  pub was : (g x : ℕ) → i ≤ suc g → g < length ks → x < ranks → marked s g x ≡ true → marked s₀ g x ≡ true
+  pub sound : (g x : ℕ) → i ≤ suc g → g < length ks → x < ranks → marked s g x ≡ true → Ahead ku kl (drop (suc g) (steps ks xs cs)) x
+  pub full : (g x : ℕ) → i ≤ suc g → g < length ks → x < ranks → marked s₀ g x ≡ true → Ahead ku kl (drop (suc g) (steps ks xs cs)) x →
+      marked s g x ≡ true
+
+module _ (ks xs cs : List ℕ) (ku kl : ℕ) (s₀ : List ℕ) (given : Given ks xs cs s₀ ku kl)
+    (fills : Filled ku kl (steps ks xs cs) (length ks) s₀) where
+  abbrev ss : List Step
+  ss = steps ks xs cs
+
+  pub prunes-start : Prunes ks xs cs ku kl s₀ (length ks) s₀
+  prunes-start =
+      record {
+        long = refl;
+        node = omega arith;
+        early = λ g x l h. refl;
+        was = λ g x l m h e. e;
+        sound = λ g x l m h e. rw (drop-of-length-le ss {i = suc g} (omega (arith, steps-length ks xs cs))) (ahead-none ku kl x);
+        full = λ g x l m h e a. e;
+      }
+
+  -- the rank of a mark is one of the nets that the next node finds open
+  below-next : (i g : ℕ) (s : List ℕ) → i ≡ suc (suc g) → Prunes ks xs cs ku kl s₀ i s → (x : ℕ) → x < ranks → marked s g x ≡ true →
+      x < fact (getD cs (suc g) 0)
+  below-next i g s e f x h m =
+      let w = fills .sound g x (omega (arith, f .node)) h (sym (f .early g x (omega arith) h) ∙ m) in
+      stop-ready ks xs cs ku kl (suc g) (omega (arith, f .node)) s₀ x given w .1
+
+  prunes-next : (i g : ℕ) (s t : List ℕ) → i ≡ suc (suc g) → Prunes ks xs cs ku kl s₀ i s →
+      Loses s g (Onward (stopOf ks xs cs ku kl (suc g)) s (suc g)) t → Prunes ks xs cs ku kl s₀ (suc g) t
+  prunes-next i g s t e f a =
+      record {
+        long = a .long ∙ f .long;
+        node = omega (arith, f .node);
+        early = λ h x l m. a .others h x m (λ q. omega arith) ∙ f .early h x (omega arith) m;
+        was = λ h x l m n k. by h l (λ q. rw q (was x n (rw q at k)))
+            (λ j. f .was h x (omega arith) m n (sym (a .others h x n (λ q. omega arith)) ∙ k));
+        sound = λ h x l m n k. by h l (λ q. rw q (sound x n (rw q at k)))
+            (λ j. f .sound h x (omega arith) m n (sym (a .others h x n (λ q. omega arith)) ∙ k));
+        full = λ h x l m n k b. by h l (λ q. rw q (full x n (rw q at k) (rw q at b)))
+            (λ j. a .others h x n (λ q. omega arith) ∙ f .full h x (omega arith) m n k b);
+      }
+    where
+      next : suc g < length ks
+      next = omega (arith, f .node)
+
+      same : (x : ℕ) → x < ranks → marked s g x ≡ marked s₀ g x
+      same x n = f .early g x (omega arith) n
+
+      by : {P : Type 0} (h : ℕ) → suc g ≤ suc h → (h ≡ g → P) → (g < h → P) → P
+      by h l p q = at-or h g (omega arith) p q
+
+      was : (x : ℕ) → x < ranks → marked t g x ≡ true → marked s₀ g x ≡ true
+      was x n k = sym (same x n) ∙ a .was x n k
+
+      sound : (x : ℕ) → x < ranks → marked t g x ≡ true → Ahead ku kl (drop (suc g) ss) x
+      sound x n k =
+          let o = a .sound x n k in
+          ahead-on ks xs cs ku kl (suc g) next x (o .next) (o .leads)
+          (f .sound (suc g) (o .next) (omega arith) next (o .within) (o .kept))
+
+      full : (x : ℕ) → x < ranks → marked s₀ g x ≡ true → Ahead ku kl (drop (suc g) ss) x → marked t g x ≡ true
+      full x n k b =
+          let (y, h, c) = ahead-back ks xs cs ku kl (suc g) next x b in
+          let w = way-on ks xs cs ku kl (suc g) next x y (fills .sound g x (omega arith) n k) h in
+          let m = rank-below ks xs cs ku kl (suc (suc g)) s₀ y given w in
+          a .full x n (same x n ∙ k)
+          (record { next = y; within = m; leads = h; kept = f .full (suc g) y (omega arith) next m (fills .full (suc g) y next w) c })
+
+  -- with node h, between gaps g and h
+  module _ (i h g : ℕ) (s : List ℕ) (ei : i ≡ suc h) (eh : h ≡ suc g) (f : Prunes ks xs cs ku kl s₀ i s) where
+    pub mark-below : (x : ℕ) → x < ranks → marked s g x ≡ true → x < fact (getD cs h 0)
+    mark-below x l m = rw eh (below-next i g s (ei ∙ ap suc eh) f x l m)
+
+    pub prunes-step : (t : List ℕ) → Loses s g (Onward (stopOf ks xs cs ku kl h) s (suc g)) t → Prunes ks xs cs ku kl s₀ h t
+    prunes-step t a = rw eh (prunes-next i g s t (ei ∙ ap suc eh) f (rw eh at a))
+
+  pub prunes-end : (i : ℕ) (s : List ℕ) → i ≤ 1 → Prunes ks xs cs ku kl s₀ i s → Pruned ku kl ss s₀ s
+  prunes-end i s l f =
+      let n = steps-length ks xs cs in
+      record {
+        long = f .long;
+        was = λ g x h. f .was g x (omega arith) (omega arith);
+        sound = λ g x h. f .sound g x (omega arith) (omega arith);
+        full = λ g x h. f .full g x (omega arith) (omega arith);
+      }

@@ -1,0 +1,112 @@
+-- What the passes over the sets of ranks ensure: which ranks are marked after each, and which positions are picked.
+use mathlib.Core.Path.{_≡_}
+use mathlib.Core.Bool.{true}
+use mathlib.Core.List.{List}
+use mathlib.Core.Logic.{_⊎_}
+use mathlib.Core.Option.{some}
+use Prim.Native.Nat.{ℕ, suc, _*_, _<_, _≤_}
+use lib.ListN.{length, take, drop}
+use Rattle.rules.specs.Street.{Earlier}
+use Rattle.orders.specs.declared.rank.Stop.{Stop}
+use Rattle.orders.specs.declared.rank.Landing.{Landing}
+use Rattle.orders.specs.declared.rank.Landing.the-variants.{To, Nowhere}
+use Rattle.orders.specs.declared.pass.Choice.{Choice}
+use Rattle.orders.specs.declared.pass.Choice.the-variants.{Go, Stuck}
+use Rattle.orders.specs.declared.pass.Positions.{Positions}
+use Rattle.orders.specs.Plan.{Step, Steps, steps}
+use Rattle.orders.specs.Ranks.{capacity, fact, hops, Way, Ahead}
+use Rattle.orders.specs.Sets.{ranks, stretch, marked, source}
+use Rattle.orders.specs.Stops.{hopAt}
+
+-- the stop leads from rank r to rank x
+pub record Leads (t : Stop) (r x : ℕ) : Type 0 where
+  pub at : ℕ
+  pub lands : hopAt t r at ≡ some x
+
+-- the stop leads from a rank before node g to rank x
+pub record Reached (t : Stop) (s : List ℕ) (g x : ℕ) : Type 0 where
+  pub rank : ℕ
+  pub below : rank < fact (t .count)
+  pub from : source s g rank ≡ true
+  pub leads : Leads t rank x
+
+-- the stop leads from rank x to a marked rank of gap g
+pub record Onward (t : Stop) (s : List ℕ) (g x : ℕ) : Type 0 where
+  pub next : ℕ
+  pub within : next < ranks
+  pub leads : Leads t x next
+  pub kept : marked s g next ≡ true
+
+-- position p leads from rank r to a marked rank of gap g, which is x
+pub record Lands (t : Stop) (s : List ℕ) (g r p x : ℕ) : Type 0 where
+  pub lands : hopAt t r p ≡ some x
+  pub within : x < ranks
+  pub kept : marked s g x ≡ true
+
+-- position p leads from rank r to no marked rank of gap g
+abbrev pub Misses : Stop → List ℕ → (g r p : ℕ) → Type 0
+Misses t s g r p = (x : ℕ) → hopAt t r p ≡ some x → marked s g x ≡ true → ⊥
+
+abbrev pub Landed : Stop → List ℕ → (g r p : ℕ) → Landing → Type 0
+Landed t s g r p (To x) = Lands t s g r p x
+Landed t s g r p Nowhere = Misses t s g r p
+
+-- p is the least position that leads from rank r to a marked rank of gap g
+pub record Least (t : Stop) (s : List ℕ) (g r p x : ℕ) : Type 0 where
+  pub low : p < capacity
+  pub lands : Lands t s g r p x
+  pub first : (q : ℕ) → q < p → Misses t s g r q
+
+abbrev pub Chosen : Stop → List ℕ → (g r : ℕ) → Choice → Type 0
+Chosen t s g r (Go p x) = Least t s g r p x
+Chosen t s g r Stuck = (q : ℕ) → Misses t s g r q
+
+-- what the passes are given: three lists of one length that hold steps, bytes for a gap after each, the tracks of two streets
+pub record Given (kinds ages counts work : List ℕ) (ku kl : ℕ) : Type 0 where
+  pub aged : length ages ≡ length kinds
+  pub counted : length counts ≡ length kinds
+  pub room : stretch * length kinds ≤ length work
+  pub plan : Steps 0 (steps kinds ages counts)
+  pub upper : ku ≤ 3
+  pub lower : kl ≤ 3
+
+-- the gaps of the first n steps hold exactly the ranks that ways lead to
+pub record Filled (ku kl : ℕ) (ss : List Step) (n : ℕ) (s : List ℕ) : Type 0 where
+  pub sound : (g x : ℕ) → g < n → x < ranks → marked s g x ≡ true → Way ku kl (take (suc g) ss) x
+  pub full : (g x : ℕ) → g < n → Way ku kl (take (suc g) ss) x → marked s g x ≡ true
+
+-- some way leads through the steps
+pub record Passable (ku kl : ℕ) (ss : List Step) : Type 0 where
+  pub end : ℕ
+  pub way : Way ku kl ss end
+
+-- the pass forward from the bytes s to t: n steps are passed, and no more can be
+pub record Forward (ku kl : ℕ) (ss : List Step) (s t : List ℕ) (n : ℕ) : Type 0 where
+  pub long : length t ≡ length s
+  pub within : n ≤ length ss
+  pub filled : Filled ku kl ss n t
+  pub passes : Passable ku kl (take n ss)
+  pub stuck : n < length ss → Passable ku kl (take (suc n) ss) → ⊥
+
+-- of the marks of s exactly those are left in t from which the steps after their gap can be passed
+pub record Pruned (ku kl : ℕ) (ss : List Step) (s t : List ℕ) : Type 0 where
+  pub long : length t ≡ length s
+  pub was : (g x : ℕ) → g < length ss → x < ranks → marked t g x ≡ true → marked s g x ≡ true
+  pub sound : (g x : ℕ) → g < length ss → x < ranks → marked t g x ≡ true → Ahead ku kl (drop (suc g) ss) x
+  pub full : (g x : ℕ) → g < length ss → x < ranks → marked s g x ≡ true → Ahead ku kl (drop (suc g) ss) x → marked t g x ≡ true
+
+-- the marks are the ranks of ways that lead on through all the steps
+pub record Kept (ku kl : ℕ) (ss : List Step) (s : List ℕ) : Type 0 where
+  pub sound : (g x : ℕ) → g < length ss → x < ranks → marked s g x ≡ true → Ahead ku kl (drop (suc g) ss) x
+  pub full : (g x : ℕ) → g < length ss → Way ku kl (take (suc g) ss) x → Ahead ku kl (drop (suc g) ss) x → marked s g x ≡ true
+
+-- of all positions that lead from rank r through the steps, the first in reading order
+pub record First (ku kl : ℕ) (ss : List Step) (r : ℕ) (ps : List ℕ) : Type 0 where
+  pub end : ℕ
+  pub runs : hops ku kl ss r ps ≡ some end
+  pub others : (qs : List ℕ) (x : ℕ) → hops ku kl ss r qs ≡ some x → (qs ≡ ps) ⊎ Earlier ps qs
+
+-- the positions of all nodes, a byte each
+pub record Picked (ku kl : ℕ) (ss : List Step) (a : Positions) : Type 0 where
+  pub cells : length (a .ps) ≡ 512
+  pub first : First ku kl ss 0 (take (length ss) (a .ps))

@@ -1,0 +1,99 @@
+// Sets of ranks in lent bytes: 90 bytes for the gap after each node.
+ghost use mathlib.Core.Path.{_≡_};
+ghost use mathlib.Core.Bool.{true, false, not};
+ghost use Prim.Native.Nat.{suc, _*_, _≤_, _<_};
+ghost use lib.ListN.{length};
+ghost use Rattle.orders.specs.Sets.{address, marked, source, Holds, Set, Bare, Clear, ranks, stretch};
+
+// The ranks of a gap.
+pub const RANKS: usize = 720;
+
+// The bytes of a gap.
+pub const STRETCH: usize = 90;
+
+// Whether rank r of gap g is marked.
+pub fn is_marked(work: &[u8], g: usize, r: usize) -> bool
+    requires { ⌜ Holds (now work) g r ⌝ }
+    ensures { λ t. ⌜ t ≡ marked (now (work .entry)) g r ⌝ }
+{
+    let k = place(r);
+    let i = STRETCH * g + k / 8;
+    (work[i] >> (k % 8)) % 2 == 1
+}
+
+// Marks rank r of gap g.
+pub fn mark(work: &mut [u8], g: usize, r: usize)
+    requires { ⌜ Holds (now work) g r ⌝ }
+    ensures { λ _. ⌜ Set (now (work .entry)) g r true (now (work .exit)) ⌝ }
+{
+    if is_marked(work, g, r) {
+        return;
+    }
+    turn(work, g, r);
+}
+
+// Takes the mark of rank r of gap g away.
+pub fn unmark(work: &mut [u8], g: usize, r: usize)
+    requires { ⌜ Holds (now work) g r ⌝ }
+    ensures { λ _. ⌜ Set (now (work .entry)) g r false (now (work .exit)) ⌝ }
+{
+    if is_marked(work, g, r) {
+        turn(work, g, r);
+    }
+}
+
+// Turns the mark of rank r of gap g over.
+fn turn(work: &mut [u8], g: usize, r: usize)
+    requires { ⌜ Holds (now work) g r ⌝ }
+    ensures { λ _. ⌜ Set (now (work .entry)) g r (not (marked (now (work .entry)) g r)) (now (work .exit)) ⌝ }
+{
+    let k = place(r);
+    let i = STRETCH * g + k / 8;
+    let bit = 1u8 << (k % 8);
+    work[i] = work[i] ^ bit;
+}
+
+// Where the bit of a rank stands in its gap's stretch.
+fn place(r: usize) -> usize
+    requires { ⌜ r < ranks ⌝ }
+    ensures { λ k. ⌜ k ≡ address r ⌝ }
+{
+    r
+}
+
+// Whether rank r is one before node g.
+pub fn is_source(work: &[u8], g: usize, r: usize) -> bool
+    requires { ⌜ (stretch * g ≤ length (now work)) × (r < ranks) ⌝ }
+    ensures { λ t. ⌜ t ≡ source (now (work .entry)) g r ⌝ }
+{
+    if g == 0 {
+        return r == 0;
+    }
+    is_marked(work, g - 1, r)
+}
+
+// Whether no rank of gap g is marked.
+pub fn bare(work: &[u8], g: usize) -> bool
+    requires { ⌜ stretch * suc g ≤ length (now work) ⌝ }
+    ensures { λ t. ⌜ Bare (now (work .entry)) g t ⌝ }
+{
+    let mut r: usize = 0;
+    while r < RANKS {
+        if is_marked(work, g, r) {
+            return false;
+        }
+        r += 1;
+    }
+    true
+}
+
+// Clears all of the bytes.
+pub fn wipe(work: &mut [u8])
+    ensures { λ _. ⌜ (length (now (work .exit)) ≡ length (now (work .entry))) × Clear (now (work .exit)) ⌝ }
+{
+    let mut i = 0;
+    while i < work.len() {
+        work[i] = 0;
+        i += 1;
+    }
+}

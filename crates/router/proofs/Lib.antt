@@ -1,0 +1,5 @@
+pub mod Bridge
+pub mod Searching
+pub mod Walking
+pub mod Laying
+pub mod Checking

@@ -1,0 +1,6 @@
+-- The laws that this crate's proofs and the router's cite.
+pub mod Noting
+pub mod Renaming
+pub mod Touched
+pub mod Telling
+pub mod Passed

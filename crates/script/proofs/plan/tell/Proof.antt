@@ -1,0 +1,121 @@
+-- `script::plan::tell` meets its contract. The loop's invariant is `Telling`: the plan of the nodes passed goes before that of the rest. Assumes nothing.
+use mathlib.Core.Path.{sym, _∙_}
+use Prim.Native.Nat.{_-_}
+use native.Mathlib.Numerals.{add-one}
+use native.Mathlib.Omega.{arith}
+use lib.ListN.{length}
+use Rattle.script.proofs.Telling.{Telling, telling-none, telling-turning, telling-more, telling-full, telling-end}
+use Rattle.script.proofs.plan.tell.Statement.{statement}
+use Rattle.script.proofs.plan.tell.Tie as tie
+
+abbrev Inv-loop : tie.InvT-loop
+Inv-loop row first last kinds₀ ages₀ counts₀ held₀ i₀ kinds ages counts held i = Telling row kinds ages counts held i
+
+abbrev μ-loop : tie.MeasureT-loop
+μ-loop row first last kinds₀ ages₀ counts₀ held₀ i₀ kinds ages counts held i = length row - i
+
+new-requires : tie.Need-new-requires Inv-loop μ-loop
+new-requires c κs = tt
+
+loop-holds : tie.Need-loop-holds Inv-loop μ-loop
+loop-holds c = telling-none (c .before .before .args .row .now) (c .new .result) (c .new .ensures)
+
+shared-slice-read-x : tie.Need-shared-slice-read-x Inv-loop μ-loop
+shared-slice-read-x c = omega arith
+
+cast-label : tie.Need-cast-label Inv-loop μ-loop
+cast-label c = omega (arith, c .shared-slice-known2 .given (c .before .before .loop .i))
+
+mul-kind-at : tie.Need-mul-kind-at Inv-loop μ-loop
+mul-kind-at c = omega (arith, c .shared-slice-known2 .given (c .before .before .loop .i))
+
+element-copy-out-kind-at : tie.Need-element-copy-out-kind-at Inv-loop μ-loop
+element-copy-out-kind-at c = omega (arith, c .shared-slice-known2 .given (c .before .before .loop .i))
+
+mul-kind-at-2 : tie.Need-mul-kind-at-2 Inv-loop μ-loop
+mul-kind-at-2 c = omega (arith, c .before .shared-slice-known2 .given (c .before .before .before .loop .i))
+
+element-copy-out-kind-at-2 : tie.Need-element-copy-out-kind-at-2 Inv-loop μ-loop
+element-copy-out-kind-at-2 c = omega (arith, c .before .shared-slice-known2 .given (c .before .before .before .loop .i))
+
+kind-at-requires : tie.Need-kind-at-requires Inv-loop μ-loop
+kind-at-requires c κs = tt
+
+array-write-kinds : tie.Need-array-write-kinds Inv-loop μ-loop
+array-write-kinds c = omega arith
+
+cast-counts : tie.Need-cast-counts Inv-loop μ-loop
+cast-counts c = omega (arith, c .before .before .before .before .before .loop .inv .sound .few)
+
+array-write-counts : tie.Need-array-write-counts Inv-loop μ-loop
+array-write-counts c = omega arith
+
+full-requires : tie.Need-full-requires Inv-loop μ-loop
+full-requires c κs = tt
+
+returns : tie.Need-returns Inv-loop μ-loop
+returns c =
+    let s = c .before .before .before .before .before .before .before .before .before .before in
+    let g = s .args in
+    let l = c .before .before .before .before .before .before .before .loop in
+    let kind = c .before .before .kind-at in
+    telling-full (g .row .now) (g .first .now) (g .last .now) (l .kinds) (l .ages) (l .counts) (l .held) (l .i) (kind .result) (s .pre .1) (s .pre .0) (l .inv) (omega arith) (kind .ensures) (sym (c .before .full .ensures) ∙ c .if1 .taken)
+
+touch-requires : tie.Need-touch-requires Inv-loop μ-loop
+touch-requires c κs =
+    let s = c .before .before .before .before .before .before .before .before .before .before in
+    let g = s .args in
+    let l = c .before .before .before .before .before .before .before .loop in
+    let kind = c .before .before .kind-at in
+    telling-turning (g .row .now) (g .first .now) (g .last .now) (l .kinds) (l .ages) (l .counts) (l .held) (l .i) (kind .result) (s .pre .1) (s .pre .0) (l .inv) (omega arith) (kind .ensures) (sym (c .before .full .ensures) ∙ c .if1 .left)
+
+array-write-ages : tie.Need-array-write-ages Inv-loop μ-loop
+array-write-ages c = omega arith
+
+add-i : tie.Need-add-i Inv-loop μ-loop
+add-i c = omega arith
+
+loop-less : tie.Need-loop-less Inv-loop μ-loop
+loop-less c = omega arith
+
+loop-again : tie.Need-loop-again Inv-loop μ-loop
+loop-again c =
+    let s = c .before .before .before .before .before .before .before .before .before .before .before .before in
+    let g = s .args in
+    let l = c .before .before .before .before .before .before .before .before .before .loop in
+    let kind = c .before .before .before .before .kind-at in
+    let turn = c .before .touch in
+    rw (add-one (l .i)) (telling-more (g .row .now) (g .first .now) (g .last .now) (l .kinds) (l .ages) (l .counts) (l .held) (l .i) (kind .result) (s .pre .1) (s .pre .0) (l .inv) (omega arith) (kind .ensures) (sym (c .before .before .before .full .ensures) ∙ c .before .before .if1 .left) (turn .result .age) (turn .result .held) (turn .ensures))
+
+returns-2 : tie.Need-returns-2 Inv-loop μ-loop
+returns-2 c =
+    let s = c .before .before .before .before in
+    let l = c .before .loop in
+    telling-end (s .args .row .now) (l .kinds) (l .ages) (l .counts) (l .held) (l .i) (s .pre .0) (l .inv) (omega arith)
+
+pub tell-spec : {M : Type 1} → statement M
+tell-spec =
+    tie.close
+    (tie.spec
+    Inv-loop
+    μ-loop
+    new-requires
+    loop-holds
+    shared-slice-read-x
+    cast-label
+    mul-kind-at
+    element-copy-out-kind-at
+    mul-kind-at-2
+    element-copy-out-kind-at-2
+    kind-at-requires
+    array-write-kinds
+    cast-counts
+    array-write-counts
+    full-requires
+    returns
+    touch-requires
+    array-write-ages
+    add-i
+    loop-less
+    loop-again
+    returns-2)

@@ -1,0 +1,12 @@
+pub mod Heads
+pub mod Tells
+pub mod Wires
+pub mod Scans
+pub mod Tails
+pub mod Touches
+pub mod Walks
+pub mod Fills
+pub mod Readings
+pub mod Matches
+pub mod Turns
+pub mod Agreements

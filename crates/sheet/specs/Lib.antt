@@ -1,0 +1,4 @@
+pub mod Told
+pub mod Walk
+pub mod GivenBack
+pub mod InTurn

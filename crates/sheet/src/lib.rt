@@ -1,0 +1,4 @@
+// Sheets as every part reads them: judged, read back into a row, and compared with a row.
+pub mod agreement;
+pub mod inspect;
+pub mod reader;
