@@ -40,8 +40,8 @@ module _ (pitch ku kl : ℕ) (wide : ku + kl < pitch) (deep : kl ≤ axis) (law 
       record {
         wide = w;
         flat = λ c a b. heights c x h .0 (record { left = l; right = r; among = m; begins = a; ends = b });
-        starts = λ c e q. let o = heights c x h .1 q in before c e o (filled parts x h l r x (o .left) (o .right) m (o .among));
-        stops = λ q. let o = heights r x h .1 q in after o (filled parts x h l r x (o .left) (o .right) m (o .among));
+        begins = λ c e q. let o = heights c x h .1 q in before c e o (filled parts x h l r x (o .left) (o .right) m (o .among));
+        ends = λ q. let o = heights r x h .1 q in after o (filled parts x h l r x (o .left) (o .right) m (o .among));
       }
     where
       w : l < r
@@ -65,14 +65,14 @@ module _ (pitch ku kl : ℕ) (wide : ku + kl < pitch) (deep : kl ≤ axis) (law 
     where
       left : (o : Over film x l h) → (o .left < l) ⊎ (l ≤ o .left) → o .left ≡ l
       left o (inl q) =
-          absurd (g .starts (l - 1) (omega arith)
+          absurd (g .begins (l - 1) (omega arith)
           (heights (l - 1) x h .0 (record { left = o .left; right = o .right; among = o .among; begins = omega arith; ends = omega (arith, o .ends) })))
       left o (inr q) = omega (arith, o .begins)
 
       right : (o : Over film x l h) → (o .right < r) ⊎ (r ≤ o .right) → (r < o .right) ⊎ (o .right ≤ r) → o .right ≡ r
-      right o (inl p) q = absurd (is-longest x h (o .left) (o .right) (o .among) .stops (g .flat (o .right) (omega (arith, o .ends)) p))
+      right o (inl p) q = absurd (is-longest x h (o .left) (o .right) (o .among) .ends (g .flat (o .right) (omega (arith, o .ends)) p))
       right o (inr p) (inl q) =
-          absurd (g .stops (heights r x h .0 (record { left = o .left; right = o .right; among = o .among; begins = omega (arith, o .begins, g .wide); ends = q })))
+          absurd (g .ends (heights r x h .0 (record { left = o .left; right = o .right; among = o .among; begins = omega (arith, o .begins, g .wide); ends = q })))
       right o (inr p) (inr q) = omega arith
 
   -- a vertical is a stub or a move

@@ -79,8 +79,8 @@ levelAt pitch (s ∷ t ∷ ss) c x = pick (ltb c pitch) (keep (has x (s .onward)
 pub record Longest (level : ℕ → Option ℕ) (h l r : ℕ) : Type 0 where
   pub wide : l < r
   pub flat : (c : ℕ) → l ≤ c → c < r → level c ≡ some h
-  pub starts : (c : ℕ) → suc c ≡ l → level c ≢ some h
-  pub stops : level r ≢ some h
+  pub begins : (c : ℕ) → suc c ≡ l → level c ≢ some h
+  pub ends : level r ≢ some h
 
 -- the heights of the nodes' own wires there
 unfoldable pub own : ℕ → List Entry → List ℕ
