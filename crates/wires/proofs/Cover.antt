@@ -1,23 +1,22 @@
 -- Which horizontals of a film lie over a unit stretch: before the next event those of the open wires, and never two of one net.
-use mathlib.Core.Path.{_≡_, refl, sym, ap, ap₂, _∙_, subst}
-use mathlib.Core.Bool.{Bool, true, false, _&&_}
-use mathlib.Core.List.{List, [], _∷_, _++_, List·Memᴰ, List·Memᴰ·head, List·Memᴰ·tail, List·Memᴰ·not-nil, Memᴰ·append-left, Memᴰ·append-right}
-use mathlib.Core.Logic.{_≢_, _⊎_, inl, inr}
-use Prim.Native.Nat.{ℕ, zero, suc, _+_, _*_, _≤_, _<_}
+use mathlib.Core.Path.{_≡_, refl, sym, ap, _∙_, subst}
+use mathlib.Core.Bool.{true}
+use mathlib.Core.List.{List, List·Memᴰ, List·Memᴰ·head, List·Memᴰ·tail, List·Memᴰ·not-nil}
+use mathlib.Core.Logic.{inl, inr}
+use Prim.Native.Nat.{ℕ, _≤_, _<_}
 use native.Mathlib.Omega.{arith}
-use lib.Dec.{leb, ltb, eqb}
 use borrow.Author.Tests.{le-leb, lt-ltb, eq-eqb}
 use Rattle.rules.specs.Basic.{pick}
-use Rattle.rules.specs.Film.{Rec, across, upright, Wire, ran, wall, bent}
+use Rattle.rules.specs.Film.{Rec, across, Wire, ran, wall, bent}
 use Rattle.rules.specs.WireRules.{over, overs}
-use Rattle.rules.proofs.Open.{one, one-same, times}
+use Rattle.rules.proofs.Open.{times}
 use Rattle.wires.specs.Levels.{Over}
-use Rattle.wires.proofs.Among.{All, nil, cons, all-at, More, more-in, more-still}
+use Rattle.wires.proofs.Among.{All, more-in}
 use Rattle.wires.proofs.Gap.{Moves, still, move}
 use Rattle.wires.proofs.Trace.{Trace, Track}
-use Rattle.wires.proofs.Steps.{nets, Runs, Good, Steps, more-times, among-more, not-wall, turn-event}
-use Rattle.wires.proofs.Rules.{Ahead, run-ahead, wall-ahead, ahead, cuts}
-use Rattle.wires.proofs.Joins.{run-ends, in-nets}
+use Rattle.wires.proofs.Steps.{nets, in-nets, Runs, Good, Steps, more-times, not-wall, turn-event}
+use Rattle.wires.proofs.Rules.{Ahead, run-ahead, ahead, cuts}
+use Rattle.wires.proofs.Joins.{run-ends}
 
 pub over-in : {film more : List Rec} {x c h : ℕ} → ((r : Rec) → List·Memᴰ r film → List·Memᴰ r more) → Over film x c h → Over more x c h
 over-in f o = record { left = o .left; right = o .right; among = f (across _ _ (o .left) (o .right)) (o .among); begins = o .begins; ends = o .ends }

@@ -1,31 +1,29 @@
 -- The film of legal entries is a trace: its gaps are moves that cross nobody, and its nodes touch the wire next to the axis.
-use mathlib.Core.Path.{_≡_, refl, sym, ap, ap₂, _∙_, subst, subst₂}
-use mathlib.Core.Bool.{Bool, true, false}
-use mathlib.Core.List.{List, [], _∷_, _++_, map, List·Memᴰ}
+use mathlib.Core.Path.{_≡_, refl, sym, ap, _∙_, subst, subst₂}
+use mathlib.Core.List.{List, [], _∷_, _++_}
 use mathlib.Core.Logic.{_≢_, _⊎_, inl, inr}
-use Prim.Native.Nat.{ℕ, zero, suc, _+_, _-_, _*_, _≤_, _<_, min, max}
+use Prim.Native.Nat.{ℕ, zero, suc, _+_, _-_, _*_, _≤_, _<_, min}
 use native.Mathlib.Nat.{eq-zero-or-pos}
 use native.Mathlib.Omega.{arith}
 use lib.ListN.{length, getD, length-map}
 use lib.Dec.{eqb}
-use borrow.Author.Tests.{eqb-true, eqb-false}
 use Rattle.rules.specs.Basic.{put, cut}
-use Rattle.rules.specs.Row.{Kind, B, M, E, node}
+use Rattle.rules.specs.Row.{Kind, B, M, E}
 use Rattle.rules.specs.Street.{counted, next}
 use Rattle.rules.specs.Sheet.{kindIn, Entry, entry, begun, labelled, labels}
 use Rattle.rules.specs.Judgement.{left}
-use Rattle.rules.specs.Film.{Rec, Wire, axis, upper, heightAt, target, ran, wall, climb, sink, gap, opened, closed, ending, draw}
+use Rattle.rules.specs.Film.{Rec, Wire, axis, upper, heightAt, target, wall, climb, sink, gap, opened, closed, ending, draw}
 use Rattle.rules.proofs.Fits.{Fits}
-use Rattle.rules.proofs.Lists.{length-put, length-cut, cut-put}
-use Rattle.rules.proofs.Open.{one, one-same, one-other, times}
+use Rattle.rules.proofs.Lists.{length-put, cut-put}
+use Rattle.rules.proofs.Open.{one-same, one-other, times}
 use Rattle.rules.proofs.Renamed.{put-map, cut-map}
 use Rattle.rules.proofs.Legal.{Legal, done, then}
 use Rattle.rules.proofs.GivenBack.{times-at, times-begin, times-end, one-pos, then-order, length-then, gone}
 use Rattle.wires.specs.Levels.{own}
-use Rattle.wires.proofs.Among.{All, nil, cons, all-map, more-put, more-cut}
-use Rattle.wires.proofs.Gap.{Aside, Clear, Falling, Falls, bare, Reached, no-wire, wire, Moves, gap-moves, gap-reached, gap-nets, gap-column}
+use Rattle.wires.proofs.Among.{All, nil, cons, more-put, more-cut}
+use Rattle.wires.proofs.Gap.{Aside, Clear, Falling, Falls, Reached, gap-moves, gap-reached, gap-nets, gap-column}
 use Rattle.wires.proofs.Trace.{Track, Trace, stop, begin, meet, end, moves-then}
-use Rattle.wires.proofs.Steps.{nets}
+use Rattle.wires.proofs.Steps.{nets, one-le}
 use Rattle.wires.proofs.Heights.{Laid, Settled, settled, settled-falling, reached-at, reached-others, falling-cut, position-falls, position-track, stub-clear, target-falls, target-track}
 
 getD-put : (k : ℕ) (w d : Wire) (o : List Wire) → k ≤ length o → getD (put k w o) k d ≡ w
@@ -54,17 +52,12 @@ fresh n [] h = nil
 fresh n (w ∷ ws) h =
     cons (λ (e : w .net ≡ n). omega (arith, h (w .net) (omega (arith, one-same (w .net))))) (fresh n ws (λ x t. h x (omega arith)))
 
-unless : (t : Bool) → one t ≤ 1
-unfolding one
-unless true = omega arith
-unless false = omega arith
-
 pub begun-next : (k : Kind) (a n : ℕ) (o : List ℕ) → a < counted k (length o) → Begun n o → Begun (begun k n) (then-order k a n o)
 unfolding counted begun next
 begun-next B a n o h b = record { once = λ x. once x (eq-zero-or-pos (times x o)); low = λ x t. low x t (eq-zero-or-pos (times x o)) }
   where
     once : (x : ℕ) → (times x o ≡ 0) ⊎ (0 < times x o) → times x (then-order B a n o) ≤ 1
-    once x (inl z) = omega (arith, times-begin x a n o, unless (eqb n x))
+    once x (inl z) = omega (arith, times-begin x a n o, one-le (eqb n x))
     once x (inr t) =
         let l : x < n = b .low x t in
         omega (arith, times-begin x a n o, one-other x n (λ (e : n ≡ x). omega arith), b .once x)

@@ -1,16 +1,16 @@
 -- The gap: from any strictly falling heights to any others, each wire's move crosses no other wire, and each has a column of its own.
 use mathlib.Core.Path.{_≡_, refl, sym, ap, ap₂, _∙_, subst, subst₂}
 use mathlib.Core.Bool.{Bool, true, false}
-use mathlib.Core.List.{List, [], _∷_, _++_, map, append-assoc, append-nil}
+use mathlib.Core.List.{List, [], _∷_, _++_, map, append-assoc}
 use mathlib.Core.Logic.{_≢_}
-use Prim.Native.Nat.{ℕ, zero, suc, _+_, _≤_, _<_, min, max}
+use Prim.Native.Nat.{ℕ, suc, _+_, _≤_, _<_, min, max}
 use native.Mathlib.Omega.{arith}
 use lib.ListN.{length, length-map}
 use lib.Dec.{ltb}
 use borrow.Author.Tests.{ltb-true, ltb-false, le-ltb}
 use Rattle.rules.specs.Basic.{pick}
-use Rattle.rules.specs.Film.{Rec, Wire, Sweep, ran, wall, bent, drawn, climb, sink, gap}
-use Rattle.wires.proofs.Among.{All, nil, cons, all-at, all-append, all-map, all-left, all-right, More, here, there, more-mid}
+use Rattle.rules.specs.Film.{Rec, Wire, ran, wall, bent, drawn, climb, sink, gap}
+use Rattle.wires.proofs.Among.{All, nil, cons, all-append, all-map, More, more-mid}
 
 -- height v lies outside the closed stretch between a and b
 abbrev pub Clear : (a b v : ℕ) → Type 0

@@ -1,19 +1,17 @@
 -- A trace joins all nodes of a net: each pin by its stub to the run that is open there, and a run to the next one by its move.
-use mathlib.Core.Path.{_≡_, refl, sym, ap, ap₂, _∙_, subst}
+use mathlib.Core.Path.{_≡_, refl, sym, ap, _∙_, subst}
 use mathlib.Core.Bool.{true}
-use mathlib.Core.List.{List, [], _∷_, _++_, List·Memᴰ, List·Memᴰ·head, List·Memᴰ·tail, List·Memᴰ·not-nil}
-use mathlib.Core.Logic.{_≢_, _⊎_, inl, inr}
-use Prim.Native.Nat.{ℕ, zero, suc, _+_, _*_, _≤_, _<_, min, max}
+use mathlib.Core.List.{List, _∷_, List·Memᴰ, List·Memᴰ·head, List·Memᴰ·tail, List·Memᴰ·not-nil}
+use Prim.Native.Nat.{ℕ, zero, suc, _+_, _*_, _≤_, _<_}
 use native.Mathlib.Omega.{arith}
 use lib.ListN.{length, getD}
-use lib.Dec.{eqb}
-use Rattle.rules.specs.Film.{Rec, across, upright, Wire, axis, ran, wall, bent}
+use Rattle.rules.specs.Film.{Rec, Wire, axis, ran, wall, bent}
 use Rattle.rules.specs.WireRules.{netOf, On, Linked, on-one, by-way}
-use Rattle.rules.proofs.Open.{one, one-same, times}
+use Rattle.rules.proofs.Open.{times}
 use Rattle.rules.proofs.GivenBack.{times-at}
-use Rattle.wires.proofs.Among.{All, all-at, More, more-in, more-still}
+use Rattle.wires.proofs.Among.{All, all-at, more-in, more-still}
 use Rattle.wires.proofs.Trace.{Trace, stop, turn, begin, meet, end}
-use Rattle.wires.proofs.Steps.{nets, more-times, among-more, Good, Event, turn-event, begin-event, meet-event, end-event}
+use Rattle.wires.proofs.Steps.{nets, other-net, among-more, Good, Event, turn-event, begin-event, meet-event, end-event}
 
 pub linked-sym : {net : ℕ} {film : List Rec} {x y x′ y′ : ℕ} → Linked net film x y x′ y′ → Linked net film x′ y′ x y
 linked-sym (on-one r d n o o′) = on-one r d n o′ o
@@ -28,17 +26,8 @@ pub record Fine (ku kl x : ℕ) (ws : List Wire) : Type 0 where
   pub good : All (Good ku kl x) ws
   pub once : (m : ℕ) → times m (nets ws) ≤ 1
 
-fine : {ku kl x y : ℕ} {ws vs : List Wire} {recs : List Rec} → Event ku kl x y ws recs vs → Fine ku kl x ws → Fine ku kl (suc y) vs
+pub fine : {ku kl x y : ℕ} {ws vs : List Wire} {recs : List Rec} → Event ku kl x y ws recs vs → Fine ku kl x ws → Fine ku kl (suc y) vs
 fine e f = record { good = e .good (f .good); once = λ m. e .once m (f .once m) }
-
-pub in-nets : {v : Wire} {ws : List Wire} → List·Memᴰ v ws → 0 < times (v .net) (nets ws)
-unfolding times
-in-nets {v} (List·Memᴰ·head {x} e) = rw (ap (λ u. u .net) e) (omega (arith, one-same (x .net)))
-in-nets (List·Memᴰ·tail d) = omega (arith, in-nets d)
-
--- no other wire has a wire's net
-other-net : {w v : Wire} {l m : List Wire} → More w l m → ((k : ℕ) → times k (nets m) ≤ 1) → List·Memᴰ v l → w .net ≡ v .net → ⊥
-other-net {w} {v} k o d e = omega (arith, o (v .net), more-times (v .net) k, in-nets d, subst (λ k. one (eqb (w .net) k) ≡ 1) e (one-same (w .net)))
 
 -- along a run, and up or down a vertical
 along : {film : List Rec} (w : Wire) (c x y : ℕ) → List·Memᴰ (ran c w) film → (w .since ≤ x) × (x ≤ c) → (w .since ≤ y) × (y ≤ c)
@@ -120,7 +109,7 @@ module _ {pitch ku kl : ℕ} where
       to-node pitch i k (omega arith) (same-wire p
       (by-way (pitch * i) (w .height) (along w (c .0) (w .since) (pitch * i) (List·Memᴰ·tail (c .2)) (omega arith) (omega arith))
       (beside w (pitch * i) axis (List·Memᴰ·head refl)))))
-      (λ p. absurd (other-net m (f .once) p e))
+      (λ p. absurd (other-net m (f .once (v .net)) p e))
       d
   onward (meet {i} {x} {w} l m a r) f v d (suc j) k q h e =
       linked-in (λ r i. List·Memᴰ·tail i) (onward r (fine (meet-event ku kl x (pitch * i) l m a) f) v d j k (omega arith) (omega arith) e)
@@ -130,7 +119,7 @@ module _ {pitch ku kl : ℕ} where
       to-node pitch i k (omega arith) (same-wire p
       (by-way (pitch * i) (w .height) (along w (pitch * i) (w .since) (pitch * i) (List·Memᴰ·tail (List·Memᴰ·head refl)) (omega arith) (omega arith))
       (beside w (pitch * i) axis (List·Memᴰ·head refl)))))
-      (λ p. absurd (other-net m (f .once) p e))
+      (λ p. absurd (other-net m (f .once (v .net)) p e))
       d
   onward (end {i} {x} {w} {row = row} l m a z r) f v d (suc j) k q h e =
       among-more m

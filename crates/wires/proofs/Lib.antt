@@ -10,3 +10,5 @@ pub mod Obeyed
 pub mod Turns
 pub mod Cover
 pub mod Stretches
+pub mod Verticals
+pub mod ByRule

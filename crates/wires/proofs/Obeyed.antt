@@ -1,23 +1,19 @@
 -- The film of legal entries obeys the wire rules, for any pitch larger than the number of wires that can be open, and is tidy; so is
 -- that of every accepted sheet.
 use mathlib.Core.Path.{_≡_, refl, sym, _∙_}
-use mathlib.Core.Bool.{Bool, true, false, _&&_}
-use mathlib.Core.List.{List, [], _∷_, List·Memᴰ}
+use mathlib.Core.List.{List, []}
 use mathlib.Core.Option.{none}
-use Prim.Native.Nat.{ℕ, zero, suc, _+_, _-_, _*_, _≤_, _<_, min, max}
-use native.Mathlib.Nat.{zero-add}
+use Prim.Native.Nat.{ℕ, suc, _+_, _*_, _≤_, _<_, min}
 use native.Mathlib.Omega.{arith}
-use lib.ListN.{length, getD}
-use lib.Dec.{leb}
-use borrow.Author.Tests.{leb-true}
-use Rattle.rules.specs.Sheet.{takes, Entry, labels, upperOf, lowerOf, entriesOf, rowOf}
+use lib.ListN.{getD}
+use Rattle.rules.specs.Sheet.{Entry, labels, upperOf, lowerOf, entriesOf, rowOf}
 use Rattle.rules.specs.Judgement.{judge}
-use Rattle.rules.specs.Film.{Rec, across, upright, Wire, axis, upper, wall, draw, records}
+use Rattle.rules.specs.Film.{Wire, axis, upper, wall, draw, records}
 use Rattle.rules.specs.WireRules.{netOf, On, WireRules, Tidy}
 use Rattle.rules.proofs.Open.{times}
 use Rattle.rules.proofs.Legal.{Legal}
 use Rattle.rules.proofs.Levels.{upper-min}
-use Rattle.rules.proofs.Accepted.{judge-passed}
+use Rattle.rules.proofs.Accepted.{judge-passed, takes-le}
 use Rattle.wires.specs.Levels.{own}
 use Rattle.wires.proofs.Among.{nil}
 use Rattle.wires.proofs.Gap.{bare}
@@ -25,9 +21,9 @@ use Rattle.wires.proofs.Trace.{Trace}
 use Rattle.wires.proofs.Steps.{Steps, steps}
 use Rattle.wires.proofs.Rules as rules
 use Rattle.wires.proofs.Joins.{Fine, joins, stub}
-use Rattle.wires.proofs.Drawn.{Begun, from, draw-trace}
+use Rattle.wires.proofs.Drawn.{from, draw-trace}
 
-none-open : {ku kl : ℕ} → Fine ku kl 0 []
+pub none-open : {ku kl : ℕ} → Fine ku kl 0 []
 unfolding times
 none-open = record { good = nil; once = λ m. omega arith }
 
@@ -69,27 +65,24 @@ module _ (pitch ku kl : ℕ) (wide : ku + kl < pitch) (deep : kl ≤ axis) (law 
         filled = rules.filled film-steps;
       }
 
-takes-le : (ku kl : ℕ) → takes ku kl ≡ true → (ku ≤ 3) × (kl ≤ 3)
-unfolding takes
-takes-le ku kl e = go (leb ku 3) (leb kl 3) refl refl e
-  where
-    go : (a b : Bool) → leb ku 3 ≡ a → leb kl 3 ≡ b → a && b ≡ true → (ku ≤ 3) × (kl ≤ 3)
-    go true true ea eb e = (leb-true ku 3 ea, leb-true kl 3 eb)
-    go true false ea eb e = let z : _≡_ {A = ℕ} 0 1 = cc in absurd (omega arith)
-    go false b ea eb e = let z : _≡_ {A = ℕ} 0 1 = cc in absurd (omega arith)
+-- what the film of an accepted sheet is drawn from
+pub record Sheeted (s : List ℕ) : Type 0 where
+  pub wide : upperOf s + lowerOf s < 16
+  pub deep : lowerOf s ≤ axis
+  pub law : (a : ℕ) → a ≤ upperOf s → upper (upperOf s) (suc a) ≡ min (suc a) (upperOf s)
+  pub legal : Legal (upperOf s) (lowerOf s) 0 (entriesOf s)
 
--- the film of an accepted sheet
 module _ (s : List ℕ) (accepted : judge s ≡ none) where
-  pub sheet-rules : WireRules 16 (upperOf s) (lowerOf s) (rowOf s) (records 16 s)
-  unfolding rowOf records
-  sheet-rules =
+  pub sheet-legal : Sheeted s
+  sheet-legal =
       let p = judge-passed s accepted in
       let t = takes-le (upperOf s) (lowerOf s) (p .tracks) in
-      wire-rules 16 (upperOf s) (lowerOf s) (omega arith) (omega arith) (λ a h. upper-min (upperOf s) a (t .0) h) (p .legal)
+      record { wide = omega arith; deep = omega arith; law = λ a h. upper-min (upperOf s) a (t .0) h; legal = p .legal }
+
+  pub sheet-rules : WireRules 16 (upperOf s) (lowerOf s) (rowOf s) (records 16 s)
+  unfolding rowOf records
+  sheet-rules = let p = sheet-legal in wire-rules 16 (upperOf s) (lowerOf s) (p .wide) (p .deep) (p .law) (p .legal)
 
   pub sheet-tidy : Tidy (upperOf s) (lowerOf s) (records 16 s)
   unfolding records
-  sheet-tidy =
-      let p = judge-passed s accepted in
-      let t = takes-le (upperOf s) (lowerOf s) (p .tracks) in
-      tidy 16 (upperOf s) (lowerOf s) (omega arith) (omega arith) (λ a h. upper-min (upperOf s) a (t .0) h) (p .legal)
+  sheet-tidy = let p = sheet-legal in tidy 16 (upperOf s) (lowerOf s) (p .wide) (p .deep) (p .law) (p .legal)

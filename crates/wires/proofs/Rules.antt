@@ -1,14 +1,13 @@
 -- The film of events keeps nets apart, meets a cut once for a net, stays on the tracks, and overfills none.
-use mathlib.Core.Path.{_≡_, refl, sym, ap, ap₂, _∙_}
+use mathlib.Core.Path.{_≡_, refl, sym, _∙_}
 use mathlib.Core.List.{List, [], _∷_, _++_, List·Memᴰ, List·Memᴰ·not-nil, List·Memᴰ·append-cases}
 use mathlib.Core.Logic.{_≢_, _⊎_, inl, inr}
-use Prim.Native.Nat.{ℕ, zero, suc, _+_, _-_, _≤_, _<_, min, max}
+use Prim.Native.Nat.{ℕ, suc, _+_, _-_, _≤_, _<_, min, max}
 use native.Mathlib.Omega.{arith}
-use Rattle.rules.specs.Basic.{pick}
 use Rattle.rules.specs.Film.{Rec, across, upright, Wire, axis}
-use Rattle.rules.specs.WireRules.{netOf, On, over, overs}
+use Rattle.rules.specs.WireRules.{netOf, On, overs}
 use Rattle.rules.proofs.Open.{times}
-use Rattle.wires.proofs.Among.{All, nil, cons, all-at, lt-or-ge}
+use Rattle.wires.proofs.Among.{All, all-at, lt-or-ge}
 use Rattle.wires.proofs.Gap.{Clear}
 use Rattle.wires.proofs.Trace.{Track}
 use Rattle.wires.proofs.Steps.{nets, Runs, Part, run, vertical, Good, marks, marks-times, Event, Steps, done, step}

@@ -1,16 +1,17 @@
 -- What the wire rules need of an event, and that every event of a trace has it.
-use mathlib.Core.Path.{_≡_, refl, sym, ap, ap₂, _∙_}
+use mathlib.Core.Path.{_≡_, refl, sym, ap, ap₂, _∙_, subst}
 use mathlib.Core.Bool.{Bool, true, false, _&&_}
 use mathlib.Core.List.{List, [], _∷_, _++_, map, List·Memᴰ, List·Memᴰ·head, List·Memᴰ·tail, List·Memᴰ·not-nil}
 use mathlib.Core.Logic.{_≢_, _⊎_, inl, inr}
-use Prim.Native.Nat.{ℕ, zero, suc, _+_, _-_, _*_, _≤_, _<_, min, max}
+use Prim.Native.Nat.{ℕ, suc, _+_, _-_, _*_, _≤_, _<_, min, max}
 use native.Mathlib.Omega.{arith}
-use lib.Dec.{leb, ltb, eqb}
+use lib.Dec.{leb, eqb}
 use borrow.Author.Tests.{lt-ltb, le-ltb, lt-leb, eqb-true, eqb-false}
 use Rattle.rules.specs.Basic.{pick}
 use Rattle.rules.specs.Film.{Rec, across, upright, Wire, axis, ran, wall, bent}
 use Rattle.rules.specs.WireRules.{over, overs}
-use Rattle.rules.proofs.Open.{one, one-other, times}
+use Rattle.rules.proofs.Open.{one, one-same, one-other, times}
+use Rattle.wires.specs.Levels.{Distinct, nothing, another}
 use Rattle.wires.proofs.Among.{All, nil, cons, all-at, More, here, there, more-cases, more-in, more-still, all-more, all-less, all-map}
 use Rattle.wires.proofs.Gap.{Aside, Clear}
 use Rattle.wires.proofs.Trace.{Track, Trace, stop, turn, begin, meet, end}
@@ -45,22 +46,31 @@ unfoldable pub marks : (net c : ℕ) → List Wire → ℕ
 marks net c [] = 0
 marks net c (w ∷ ws) = mark net c w + marks net c ws
 
--- from the wires ws to the wires vs at column y, x or later
+-- an event of a net at column y, x or later, from the wires ws to the wires vs, between the heights a and b
 pub record Event (ku kl x y : ℕ) (ws : List Wire) (recs : List Rec) (vs : List Wire) : Type 0 where
   pub net : ℕ
   pub a : ℕ
   pub b : ℕ
   pub later : x ≤ y
+  -- what it draws: its parts, one run at most, none of them twice
   pub parts : All (Part net a b y ws vs) recs
   pub single : (n h l r n′ h′ l′ r′ : ℕ) → List·Memᴰ (across n h l r) recs → List·Memᴰ (across n′ h′ l′ r′) recs → across n h l r ≡ across n′ h′ l′ r′
+  pub distinct : Distinct recs
+  -- all other wires are clear of it
   pub clear : (v : Wire) → List·Memᴰ v vs → (v .net ≡ net) ⊎ Clear a b (v .height)
+  -- a wire after it was there before or begins at y, and then its net is new or its vertical is drawn
+  pub turned : ((m : ℕ) → times m (nets ws) ≤ 1) → (v : Wire) → List·Memᴰ v vs
+      → List·Memᴰ v ws ⊎ ((w : Wire) → List·Memᴰ w ws → w .net ≡ v .net → List·Memᴰ (upright (v .net) (min (v .height) (w .height)) y (max (v .height) (w .height))) recs)
   pub kept : (v : Wire) → List·Memᴰ v vs → List·Memᴰ v ws ⊎ (v .since ≡ y)
+  -- over a cut before y its runs and the wires after it are the wires before it; over a later one it draws nothing
   pub crossed : (m c : ℕ) → c < y → overs m c recs + marks m c vs ≡ marks m c ws
   pub behind : (m c : ℕ) → y ≤ c → overs m c recs ≡ 0
+  -- wires keep to a net each and to the tracks
   pub once : (m : ℕ) → times m (nets ws) ≤ 1 → times m (nets vs) ≤ 1
   pub good : All (Good ku kl x) ws → All (Good ku kl (suc y)) vs
   pub street : All (Good ku kl x) ws → (a ≢ b) × (axis - kl ≤ min a b) × (max a b ≤ axis + ku)
 
+-- events from column x on, with the wires ws open
 pub data Steps (ku kl : ℕ) : ℕ → List Wire → List Rec → Type 0 where
   done : {x : ℕ} → Steps ku kl x [] []
   step : {x y : ℕ} {ws vs : List Wire} {recs film : List Rec} → Event ku kl x y ws recs vs → Steps ku kl (suc y) vs film → Steps ku kl x ws (recs ++ film)
@@ -103,7 +113,16 @@ unfolding times
 more-times x here = refl
 more-times x (there k) = omega (arith, more-times x k)
 
-one-le : (t : Bool) → one t ≤ 1
+pub in-nets : {v : Wire} {ws : List Wire} → List·Memᴰ v ws → 0 < times (v .net) (nets ws)
+unfolding times
+in-nets {v} (List·Memᴰ·head {x} e) = rw (ap (λ u. u .net) e) (omega (arith, one-same (x .net)))
+in-nets (List·Memᴰ·tail d) = omega (arith, in-nets d)
+
+-- no other wire has a wire's net
+pub other-net : {w v : Wire} {l m : List Wire} → More w l m → times (v .net) (nets m) ≤ 1 → List·Memᴰ v l → w .net ≡ v .net → ⊥
+other-net {w} {v} k o d e = omega (arith, more-times (v .net) k, in-nets d, subst (λ n. one (eqb (w .net) n) ≡ 1) e (one-same (w .net)))
+
+pub one-le : (t : Bool) → one t ≤ 1
 unfolding one
 one-le true = omega arith
 one-le false = omega arith
@@ -133,6 +152,10 @@ not-wall e = let z : _≡_ {A = ℕ} 0 1 = cc in omega arith
 no-run : {n h l r m k x i : ℕ} → List·Memᴰ (across n h l r) (upright m k x i ∷ []) → ⊥
 no-run (List·Memᴰ·head e) = not-wall e
 no-run (List·Memᴰ·tail d) = List·Memᴰ·not-nil d
+
+no-wall : {n h l r m k x i : ℕ} → List·Memᴰ (upright m k x i) (across n h l r ∷ []) → ⊥
+no-wall (List·Memᴰ·head e) = not-wall (sym e)
+no-wall (List·Memᴰ·tail d) = List·Memᴰ·not-nil d
 
 run-first : {n h l r m k x i : ℕ} {p : Rec} → List·Memᴰ (across n h l r) (p ∷ upright m k x i ∷ []) → across n h l r ≡ p
 run-first (List·Memᴰ·head e) = e
@@ -171,6 +194,12 @@ module _ (ku kl x y : ℕ) (later : x ≤ y) where
             (cons {x = wall y h w} (vertical refl refl refl refl) nil);
         single = λ n h l r n′ h′ l′ r′ p q. run-first p ∙ sym (run-first q);
         clear = λ v. among-more n (λ e. inl (ap (λ u. u .net) e)) (λ i. inr (all-at a i));
+        turned = λ o v. among-more n
+            (λ e. inr (λ z. among-more m
+            (λ f q. List·Memᴰ·tail (List·Memᴰ·head (ap₂ (λ u z. upright (u .net) (min (u .height) (z .height)) y (max (u .height) (z .height))) e f)))
+            (λ i q. absurd (other-net m (o (z .net)) i (sym (ap (λ u. u .net) e) ∙ sym q)))))
+            (λ i. inl (more-still m i));
+        distinct = another no-run (another List·Memᴰ·not-nil nothing);
         kept = λ v. among-more n (λ e. inr (ap (λ u. u .since) e)) (λ i. inl (more-still m i));
         crossed = λ k c l. omega (arith, more-marks k c m, more-marks k c n, mark-both k y c w l, mark-later k c (bent true h y w) l);
         behind = λ k c l. omega (arith, mark-past k y c w l);
@@ -179,10 +208,13 @@ module _ (ku kl x y : ℕ) (later : x ≤ y) where
         street = λ g. let s = all-at g (more-in m) in (d, omega (arith, s .track .low, t .low), omega (arith, s .track .high, t .high));
       }
 
-  pub begin-event : {w : Wire} {ws vs : List Wire} → w .since ≡ y → Track ku kl (w .height) → More w ws vs → All (Aside axis (w .height)) ws
-      → All (λ v. v .net ≢ w .net) ws → Event ku kl x y ws (wall y axis w ∷ []) vs
+  -- a stub at a wire that is there after the node, with nothing else drawn
+  stub-event : {w : Wire} {others ws vs : List Wire} → More w others vs → All (Aside axis (w .height)) others
+      → ((v : Wire) → List·Memᴰ v vs → List·Memᴰ v ws ⊎ ((v .since ≡ y) × ((z : Wire) → List·Memᴰ z ws → z .net ≡ v .net → ⊥)))
+      → ((m c : ℕ) → c < y → marks m c vs ≡ marks m c ws) → ((m : ℕ) → times m (nets ws) ≤ 1 → times m (nets vs) ≤ 1)
+      → (All (Good ku kl x) ws → All (Good ku kl (suc y)) vs) → Event ku kl x y ws (wall y axis w ∷ []) vs
   unfolding wall over overs pick
-  begin-event {w} {ws} {vs} s t m a f =
+  stub-event {w} {others} {ws} {vs} m a from even once good =
       record {
         net = w .net;
         a = axis;
@@ -191,36 +223,35 @@ module _ (ku kl x y : ℕ) (later : x ≤ y) where
         parts = cons {x = wall y axis w} (vertical refl refl refl refl) nil;
         single = λ n h l r n′ h′ l′ r′ p q. absurd (no-run p);
         clear = λ v. among-more m (λ e. inl (ap (λ u. u .net) e)) (λ i. inr (all-at a i));
-        kept = λ v. among-more m (λ e. inr (ap (λ u. u .since) e ∙ s)) (λ i. inl i);
-        crossed = λ k c l. omega (arith, more-marks k c m, mark-later k c w (omega arith));
+        turned = λ o v i. either (from v i) (λ f. inr (λ z d q. absurd (f .1 z d q)));
+        distinct = another List·Memᴰ·not-nil nothing;
+        kept = λ v i. either (from v i) (λ f. inr (f .0));
+        crossed = λ k c l. omega (arith, even k c l);
         behind = λ k c l. omega arith;
-        once = λ k o. fresh k o (eqb (w .net) k) refl;
-        good = λ g. all-more m (record { track = t; since = omega arith }) (still-good g);
-        street = λ g. (λ z. t .off (sym z), omega (arith, t .low), omega (arith, t .high));
+        once = once;
+        good = good;
+        street = λ g. let t = all-at (good g) (more-in m) .track in (λ z. t .off (sym z), omega (arith, t .low), omega (arith, t .high));
       }
+    where
+      either : {A C D : Type 0} → A ⊎ C → (C → A ⊎ D) → A ⊎ D
+      either (inl p) f = inl p
+      either (inr q) f = f q
+
+  pub begin-event : {w : Wire} {ws vs : List Wire} → w .since ≡ y → Track ku kl (w .height) → More w ws vs → All (Aside axis (w .height)) ws
+      → All (λ v. v .net ≢ w .net) ws → Event ku kl x y ws (wall y axis w ∷ []) vs
+  begin-event {w} {ws} {vs} s t m a f =
+      stub-event m a
+      (λ v. among-more m (λ e. inr (ap (λ u. u .since) e ∙ s, λ z i q. all-at f i (q ∙ ap (λ u. u .net) e))) inl)
+      (λ k c l. omega (arith, more-marks k c m, mark-later k c w (omega arith)))
+      (λ k o. fresh k o (eqb (w .net) k) refl)
+      (λ g. all-more m (record { track = t; since = omega arith }) (still-good g))
     where
       fresh : (k : ℕ) → times k (nets ws) ≤ 1 → (b : Bool) → eqb (w .net) k ≡ b → times k (nets vs) ≤ 1
       fresh k o true e = omega (arith, more-times k m, one-le (eqb (w .net) k), none-of f (eqb-true (w .net) k e))
       fresh k o false e = omega (arith, more-times k m, one-other k (w .net) (eqb-false (w .net) k e))
 
   pub meet-event : {w : Wire} {others ws : List Wire} → More w others ws → All (Aside axis (w .height)) others → Event ku kl x y ws (wall y axis w ∷ []) ws
-  unfolding wall over overs pick
-  meet-event {w} {others} {ws} m a =
-      record {
-        net = w .net;
-        a = axis;
-        b = w .height;
-        later = later;
-        parts = cons {x = wall y axis w} (vertical refl refl refl refl) nil;
-        single = λ n h l r n′ h′ l′ r′ p q. absurd (no-run p);
-        clear = λ v. among-more m (λ e. inl (ap (λ u. u .net) e)) (λ i. inr (all-at a i));
-        kept = λ v. inl;
-        crossed = λ k c l. omega arith;
-        behind = λ k c l. omega arith;
-        once = λ k o. o;
-        good = still-good;
-        street = λ g. let t = all-at g (more-in m) .track in (λ z. t .off (sym z), omega (arith, t .low), omega (arith, t .high));
-      }
+  meet-event m a = stub-event m a (λ v. inl) (λ k c l. refl) (λ k o. o) still-good
 
   pub end-event : {w : Wire} {ws vs : List Wire} → More w vs ws → All (Aside axis (w .height)) vs → Event ku kl x y ws (wall y axis w ∷ ran y w ∷ []) vs
   unfolding ran wall over overs pick
@@ -236,6 +267,8 @@ module _ (ku kl x y : ℕ) (later : x ≤ y) where
             (λ v i z. all-at a i (omega arith) (omega arith))) nil);
         single = λ n h l r n′ h′ l′ r′ p q. run-last p ∙ sym (run-last q);
         clear = λ v i. inr (all-at a i);
+        turned = λ o v i. inl (more-still m i);
+        distinct = another (λ d. no-wall d) (another List·Memᴰ·not-nil nothing);
         kept = λ v i. inl (more-still m i);
         crossed = λ k c l. omega (arith, more-marks k c m, mark-both k y c w l);
         behind = λ k c l. omega (arith, mark-past k y c w l);

@@ -1,33 +1,32 @@
 -- Over every unit stretch the film has a horizontal of each net that is open there, at the height of the rules, and of no other.
-use mathlib.Core.Path.{_≡_, refl, sym, ap, ap₂, _∙_, subst}
+use mathlib.Core.Path.{_≡_, refl, sym, ap, _∙_, subst}
 use mathlib.Core.Bool.{Bool, true, false}
-use mathlib.Core.List.{List, [], _∷_, _++_, map, List·Memᴰ, List·Memᴰ·head, List·Memᴰ·tail, List·Memᴰ·not-nil, List·Memᴰ·append-cases, Memᴰ·append-left, Memᴰ·append-right}
-use mathlib.Core.Logic.{_≢_, _⊎_, inl, inr, _↔_}
-use mathlib.Core.Option.{Option, none, some}
-use Prim.Native.Nat.{ℕ, zero, suc, _+_, _-_, _*_, _≤_, _<_, min}
+use mathlib.Core.List.{List, [], _∷_, _++_, List·Memᴰ, List·Memᴰ·head, List·Memᴰ·tail, List·Memᴰ·not-nil, List·Memᴰ·append-cases, Memᴰ·append-left, Memᴰ·append-right}
+use mathlib.Core.Logic.{_⊎_, inl, inr, _↔_}
+use mathlib.Core.Option.{some}
+use Prim.Native.Nat.{ℕ, suc, _+_, _-_, _*_, _≤_, _<_, min}
 use native.Mathlib.Nat.{eq-zero-or-pos}
 use native.Mathlib.Omega.{arith}
 use lib.ListN.{length, getD}
-use lib.Dec.{leb, ltb, eqb}
+use lib.Dec.{eqb}
 use borrow.Author.Tests.{le-leb, lt-leb, lt-ltb, le-ltb, eqb-true, eqb-false}
-use Rattle.rules.specs.Basic.{pick, put, cut, keep}
-use Rattle.rules.specs.Row.{before, has, Kind, B, M, E, node}
+use Rattle.rules.specs.Basic.{pick, put, keep}
+use Rattle.rules.specs.Row.{before, has, Kind, B, M, E}
 use Rattle.rules.specs.Street.{counted, next}
-use Rattle.rules.specs.Sheet.{kindIn, Entry, entry, begun, labels}
+use Rattle.rules.specs.Sheet.{kindIn, Entry, entry, begun}
 use Rattle.rules.specs.Judgement.{left}
-use Rattle.rules.specs.Film.{Rec, across, upright, Wire, axis, upper, heightAt, target, ran, wall, bent, climb, sink, gap, opened, closed, ending, draw}
+use Rattle.rules.specs.Film.{Rec, across, Wire, axis, upper, heightAt, target, ran, wall, bent, climb, sink, gap, opened, closed, ending, draw}
 use Rattle.rules.proofs.Fits.{Fits}
-use Rattle.rules.proofs.Open.{one, one-same, one-other, times}
+use Rattle.rules.proofs.Open.{one-other, times}
 use Rattle.rules.proofs.Renamed.{put-map}
 use Rattle.rules.proofs.Legal.{Legal, done, then}
-use Rattle.rules.proofs.GivenBack.{times-at, before-once, has-in, has-out, one-pos, then-order}
-use Rattle.wires.specs.Levels.{Stop, present, stops, heightIn, rises, sinks, turnAt, levelIn, levelAt, Over, own}
-use Rattle.wires.proofs.Among.{All, nil, cons, all-at, all-map, all-more, all-less, more-put, more-cut, lt-or-ge}
-use Rattle.wires.proofs.Gap.{Falling, Reached, no-wire, wire, Moves, gap-moves, gap-reached, gap-nets, gap-column}
+use Rattle.rules.proofs.GivenBack.{before-once, has-in, has-out, then-order}
+use Rattle.wires.specs.Levels.{Stop, present, stops, heightIn, turnAt, levelIn, levelAt, Over}
+use Rattle.wires.proofs.Among.{All, nil, cons, all-at, all-map, all-more, all-less, more-put, lt-or-ge}
+use Rattle.wires.proofs.Gap.{Falling, Reached, no-wire, wire, Moves, gap-moves, gap-reached, gap-column}
 use Rattle.wires.proofs.Trace.{Track, Trace}
-use Rattle.wires.proofs.Steps.{nets, Runs, Good, Steps, steps, not-wall}
-use Rattle.wires.proofs.Joins.{in-nets}
-use Rattle.wires.proofs.Heights.{Laid, Settled, reached-at, all-cut, position-track, target-falls, target-track}
+use Rattle.wires.proofs.Steps.{nets, in-nets, Good, Steps, steps, not-wall}
+use Rattle.wires.proofs.Heights.{Settled, reached-at, all-cut, position-track, target-falls, target-track}
 use Rattle.wires.proofs.Drawn.{Begun, begun-next, net-at, length-nets, closed-falling, counted-le, coming, meeting, leaving, at-node, Passing, passing, node-on, draw-trace, from}
 use Rattle.wires.proofs.Turns.{Aims, no-aim, aim, Passed, gap-turns}
 use Rattle.wires.proofs.Cover.{over-in, over-open, over-wire, over-once, moves-runs, moves-good}

@@ -1,21 +1,19 @@
 -- In a gap each net moves at the column that the rules give it, and there alone.
-use mathlib.Core.Path.{_≡_, refl, sym, ap, ap₂, _∙_, subst, subst₂}
+use mathlib.Core.Path.{_≡_, refl, sym, ap, ap₂, _∙_, subst}
 use mathlib.Core.Bool.{Bool, true, false}
-use mathlib.Core.List.{List, [], _∷_, _++_, map, List·Memᴰ, List·Memᴰ·head, List·Memᴰ·tail, List·Memᴰ·not-nil, Memᴰ·append-left, Memᴰ·append-right}
-use mathlib.Core.Logic.{_≢_, _⊎_, inl, inr}
-use Prim.Native.Nat.{ℕ, zero, suc, _+_, _≤_, _<_}
+use mathlib.Core.List.{List, [], _∷_, _++_, List·Memᴰ, List·Memᴰ·head, List·Memᴰ·tail, List·Memᴰ·not-nil, Memᴰ·append-left, Memᴰ·append-right}
+use mathlib.Core.Logic.{_≢_}
+use Prim.Native.Nat.{ℕ, suc, _+_, _≤_, _<_}
 use native.Mathlib.Omega.{arith}
-use lib.ListN.{length}
 use lib.Dec.{ltb, eqb}
-use borrow.Author.Tests.{ltb-true, ltb-false, le-ltb, lt-ltb, eq-eqb, ne-eqb}
+use borrow.Author.Tests.{ltb-true, ltb-false, le-ltb, eq-eqb, ne-eqb}
 use Rattle.rules.specs.Basic.{pick}
-use Rattle.rules.specs.Film.{Rec, Wire, ran, wall, bent, drawn, climb, sink, gap}
-use Rattle.rules.proofs.Open.{one, one-same, times}
+use Rattle.rules.specs.Film.{Rec, Wire, ran, bent, drawn, climb, sink, gap}
+use Rattle.rules.proofs.Open.{times}
 use Rattle.wires.specs.Levels.{Stop, heightIn, rises, sinks, count, above, below, turnAt}
-use Rattle.wires.proofs.Among.{All, nil, cons, all-at, all-map}
+use Rattle.wires.proofs.Among.{All, nil, cons, all-at, all-map, here}
 use Rattle.wires.proofs.Gap.{climb-nets}
-use Rattle.wires.proofs.Steps.{nets}
-use Rattle.wires.proofs.Joins.{in-nets}
+use Rattle.wires.proofs.Steps.{nets, other-net}
 
 -- the heights to reach, by place and by net
 pub data Aims (t R : ℕ → ℕ) : ℕ → List ℕ → Type 0 where
@@ -49,9 +47,7 @@ unfolding times
 later-once y o h x = omega (arith, h x)
 
 other : (w : Wire) (ws : List Wire) {v : Wire} → Once (nets (w ∷ ws)) → List·Memᴰ v ws → eqb (w .net) (v .net) ≡ false
-unfolding times
-other w ws {v} h d =
-    ne-eqb (w .net) (v .net) (λ e. omega (arith, h (v .net), in-nets d, subst (λ k. one (eqb (w .net) k) ≡ 1) e (one-same (w .net))))
+other w ws {v} h d = ne-eqb (w .net) (v .net) (other-net {w = w} here (h (v .net)) d)
 
 more-before : {b : Bool} {h m : ℕ} {v u : Wire} {film : List Rec} {ws : List Wire} (p : List Rec) → Turned b h m v film ws → Turned b h m v (p ++ film) (u ∷ ws)
 more-before p t = record { ends = λ e. Memᴰ·append-right p (t .ends e); goes = List·Memᴰ·tail (t .goes) }

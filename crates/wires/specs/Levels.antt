@@ -13,7 +13,7 @@ use Rattle.rules.specs.Basic.{pick, put, keep}
 use Rattle.rules.specs.Row.{before, has, Kind, B, M, E, node}
 use Rattle.rules.specs.Street.{next}
 use Rattle.rules.specs.Sheet.{kindIn, Entry, entry, begun, labels}
-use Rattle.rules.specs.Film.{Rec, across, upright, axis, upper, heightAt, draw}
+use Rattle.rules.specs.Film.{Rec, across, upright, axis, upper, heightAt}
 
 -- a node: the wires laid in the upper street, the nets open there from top to bottom, its own among them, and those open after it
 pub record Stop : Type 0 where
@@ -79,8 +79,8 @@ levelAt pitch (s ∷ t ∷ ss) c x = pick (ltb c pitch) (keep (has x (s .onward)
 pub record Longest (level : ℕ → Option ℕ) (h l r : ℕ) : Type 0 where
   pub wide : l < r
   pub flat : (c : ℕ) → l ≤ c → c < r → level c ≡ some h
-  pub starts : (c : ℕ) → suc c ≡ l → level c ≢ some h
-  pub stops : level r ≢ some h
+  pub begins : (c : ℕ) → suc c ≡ l → level c ≢ some h
+  pub ends : level r ≢ some h
 
 -- the heights of the nodes' own wires there
 unfoldable pub own : ℕ → List Entry → List ℕ
