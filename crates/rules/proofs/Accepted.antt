@@ -155,11 +155,11 @@ unfolding orElse
 orElse-none none y e = (refl, e)
 orElse-none (some a) y e = let z : _≡_ {A = ℕ} 0 1 = cc in absurd (omega arith)
 
-none-orElse {ℓ} : {A : Type ℓ} {x y : Option A} → x ≡ none → y ≡ none → orElse x y ≡ none
+pub none-orElse {ℓ} : {A : Type ℓ} {x y : Option A} → x ≡ none → y ≡ none → orElse x y ≡ none
 unfolding orElse
 none-orElse e f = rw e f
 
-none-keep {ℓ} : {A : Type ℓ} {t : Bool} (a : A) → t ≡ false → keep t a ≡ none
+pub none-keep {ℓ} : {A : Type ℓ} {t : Bool} (a : A) → t ≡ false → keep t a ≡ none
 unfolding keep
 none-keep a e = rw e
 

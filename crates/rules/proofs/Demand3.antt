@@ -120,20 +120,21 @@ module _ (row : List ℕ) (ku kl : ℕ) (work out : List ℕ) where
         ap (λ a. sheetAfter a row ku kl out) (sheet-exactly .1 (ps, f .placing))
         ∙ rw (first-unique ku kl (nodes row) ps f)
 
+-- a row that gets a sheet is placed, and the sheet is that of its first placing
+pub first-placed : (row : List ℕ) (ku kl : ℕ) (work out : List ℕ) → Below 256 row → Checked row ku kl work out → routing row ku kl work out ≡ Sheet (length row)
+    → (ps : List ℕ) × Placed row ku kl ps × (firstSheet row ku kl ≡ sheet ku kl (nodes row) ps)
+first-placed row ku kl work out b c e = go (answered row ku kl work out c)
+  where
+    go : Answered row ku kl work out c → (ps : List ℕ) × Placed row ku kl ps × (firstSheet row ku kl ≡ sheet ku kl (nodes row) ps)
+    go (placed ps f a s) =
+        let h = checked-fit row ku kl work out c in
+        (ps, record { bytes-alone = b; least = h .least; most = h .most; whole = h .whole; upper = h .upper; lower = h .lower; placing = f .placing }, s)
+    go (stuck i n s a) = let z : _≡_ {A = ℕ} 0 1 = cc in absurd (omega arith)
+
 -- two rows that get sheets get equal ones exactly when they join the same pins under the same track counts
 module _ (row row′ : List ℕ) (ku kl ku′ kl′ : ℕ) (work out work′ out′ : List ℕ) (b : Below 256 row) (b′ : Below 256 row′)
     (checked : Checked row ku kl work out) (checked′ : Checked row′ ku′ kl′ work′ out′)
     (got : routing row ku kl work out ≡ Sheet (length row)) (got′ : routing row′ ku′ kl′ work′ out′ ≡ Sheet (length row′)) where
-  first-placed : (row : List ℕ) (ku kl : ℕ) (work out : List ℕ) → Below 256 row → Checked row ku kl work out → routing row ku kl work out ≡ Sheet (length row)
-      → (ps : List ℕ) × Placed row ku kl ps × (firstSheet row ku kl ≡ sheet ku kl (nodes row) ps)
-  first-placed row ku kl work out b c e = go (answered row ku kl work out c)
-    where
-      go : Answered row ku kl work out c → (ps : List ℕ) × Placed row ku kl ps × (firstSheet row ku kl ≡ sheet ku kl (nodes row) ps)
-      go (placed ps f a s) =
-          let h = checked-fit row ku kl work out c in
-          (ps, record { bytes-alone = b; least = h .least; most = h .most; whole = h .whole; upper = h .upper; lower = h .lower; placing = f .placing }, s)
-      go (stuck i n s a) = let z : _≡_ {A = ℕ} 0 1 = cc in absurd (omega arith)
-
   pub equal-sheets : firstSheet row ku kl ≡ firstSheet row′ ku′ kl′ ↔ (SamePins row row′ × (ku ≡ ku′) × (kl ≡ kl′))
   unfolding firstSheet
   equal-sheets = (to, from)

@@ -17,5 +17,6 @@ pub mod GivenBack
 pub mod SheetFields
 pub mod Accepted
 pub mod Demand3
+pub mod Demand2
 pub mod Levels
 pub mod Specimens
