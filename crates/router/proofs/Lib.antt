@@ -3,3 +3,4 @@ pub mod Searching
 pub mod Walking
 pub mod Laying
 pub mod Checking
+pub mod Demand

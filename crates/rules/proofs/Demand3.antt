@@ -63,7 +63,7 @@ module _ (row : List ℕ) (ku kl : ℕ) (work out : List ℕ) where
       }
 
   module _ (checked : Checked row ku kl work out) where
-    routing-outcome : routing row ku kl work out ≡ outcome ku kl (nodes row) (first ku kl (nodes row))
+    pub routing-outcome : routing row ku kl work out ≡ outcome ku kl (nodes row) (first ku kl (nodes row))
     unfolding routing settle
     routing-outcome = rw checked
 
