@@ -1,0 +1,59 @@
+// Lent buffers: filled with a pattern before a call, and looked at afterwards.
+
+// What stands at an index of a buffer before a call. It is never 0.
+fn pattern(i: usize) -> u8 {
+    (i % 251) as u8 + 3
+}
+
+pub fn fill(buffer: &mut [u8]) {
+    let mut i = 0;
+    while i < buffer.len() {
+        buffer[i] = pattern(i);
+        i += 1;
+    }
+}
+
+// Whether a buffer still has the pattern from an index on.
+pub fn is_kept(buffer: &[u8], from: usize) -> bool {
+    let mut i = from;
+    while i < buffer.len() {
+        if buffer[i] != pattern(i) {
+            return false;
+        }
+        i += 1;
+    }
+    true
+}
+
+// Whether a buffer has the first n bytes of another at its start.
+pub fn has(buffer: &[u8], wanted: &[u8], n: usize) -> bool {
+    if buffer.len() < n {
+        return false;
+    }
+    if wanted.len() < n {
+        return false;
+    }
+    let mut i = 0;
+    while i < n {
+        if buffer[i] != wanted[i] {
+            return false;
+        }
+        i += 1;
+    }
+    true
+}
+
+// Whether the first n bytes of a buffer are zero.
+pub fn is_zero(buffer: &[u8], n: usize) -> bool {
+    if buffer.len() < n {
+        return false;
+    }
+    let mut i = 0;
+    while i < n {
+        if buffer[i] != 0 {
+            return false;
+        }
+        i += 1;
+    }
+    true
+}

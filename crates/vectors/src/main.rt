@@ -1,0 +1,117 @@
+// Has the library answer every line of the outside vectors in data/, and prints how many disagree.
+mod ask_reader;
+mod ask_router;
+mod buffers;
+mod fields;
+mod told;
+
+use ask_reader::reader_line;
+use ask_router::router_line;
+use fields::find;
+use libc::STDOUT_FILENO;
+use std::num::wrapping_add_u64;
+
+// Whom the lines of a file ask.
+enum Asked {
+    Router,
+    Reader,
+}
+
+const TEXT: usize = 524288;
+
+fn main() {
+    ask(Asked::Router, b"router.txt");
+    ask(Asked::Reader, b"sheets.txt");
+    ask(Asked::Router, b"wrong-router.txt");
+    ask(Asked::Reader, b"wrong-sheets.txt");
+}
+
+// Answers a file of under 524,288 bytes.
+fn ask(asked: Asked, path: &[u8]) {
+    let fd = os::open_read(path);
+    if fd < 0 {
+        os::fail(path);
+        return;
+    }
+    let mut text = [0u8; TEXT];
+    let n = io::read_full(fd, &mut text);
+    libc::close(fd);
+    if n == TEXT {
+        io::write_all(STDOUT_FILENO, b"too long: ");
+    }
+    let mut counts = [0u64; 32];
+    let wrong = lines(asked, path, &text[..n], &mut counts);
+    report(path, &counts, wrong);
+}
+
+// How many lines of a text disagree; `counts` gains one at each answer's number.
+fn lines(asked: Asked, path: &[u8], text: &[u8], counts: &mut [u64; 32]) -> u64 {
+    let mut wrong = 0;
+    let mut line = 0;
+    let mut at = 0;
+    while at < text.len() {
+        let end = find(text, at, b'\n');
+        let is_right = line_right(asked, &text[at..end], counts);
+        line = wrapping_add_u64(line, 1);
+        wrong = noted(path, line, is_right, wrong);
+        at = end + 1;
+    }
+    wrong
+}
+
+fn line_right(asked: Asked, line: &[u8], counts: &mut [u64; 32]) -> bool {
+    match asked {
+        Asked::Router => router_line(line, counts),
+        Asked::Reader => reader_line(line, counts),
+    }
+}
+
+// The number of lines that disagree, after this one. The first eight of a file are named.
+fn noted(path: &[u8], line: u64, is_right: bool, wrong: u64) -> u64 {
+    if is_right {
+        return wrong;
+    }
+    if wrong < 8 {
+        io::write_all(STDOUT_FILENO, path);
+        io::write_all(STDOUT_FILENO, b": line ");
+        io::print_decimal(STDOUT_FILENO, line);
+        io::write_all(STDOUT_FILENO, b" disagrees\n");
+    }
+    wrapping_add_u64(wrong, 1)
+}
+
+fn report(path: &[u8], counts: &[u64; 32], wrong: u64) {
+    io::write_all(STDOUT_FILENO, path);
+    io::write_all(STDOUT_FILENO, b": ");
+    io::print_decimal(STDOUT_FILENO, total(counts));
+    io::write_all(STDOUT_FILENO, b" answers, ");
+    io::print_decimal(STDOUT_FILENO, wrong);
+    io::write_all(STDOUT_FILENO, b" disagreements\n");
+    let mut k = 0;
+    while k < 32 {
+        print_count(k as u64, counts[k]);
+        k += 1;
+    }
+}
+
+fn total(counts: &[u64; 32]) -> u64 {
+    let mut sum = 0;
+    let mut k = 0;
+    while k < 32 {
+        sum = wrapping_add_u64(sum, counts[k]);
+        k += 1;
+    }
+    sum
+}
+
+// A number and how often it was answered, where it was.
+fn print_count(number: u64, count: u64) {
+    if count == 0 {
+        return;
+    }
+    io::write_all(STDOUT_FILENO, b"  answer ");
+    io::print_decimal(STDOUT_FILENO, number);
+    io::write_all(STDOUT_FILENO, b": ");
+    io::print_decimal(STDOUT_FILENO, count);
+    io::write_all(STDOUT_FILENO, b"\n");
+}

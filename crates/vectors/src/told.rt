@@ -1,0 +1,40 @@
+// What was answered and written, against a line.
+use crate::buffers::has;
+use crate::buffers::is_kept;
+use crate::fields::bytes;
+use crate::fields::number;
+use answers::Said;
+use std::num::wrapping_add_u64;
+ghost use Prim.Native.Nat.{_<_};
+
+// Counts an answer at its number.
+pub fn count(counts: &mut [u64; 32], said: Said) {
+    let k = said.number as usize;
+    if k < 32 {
+        counts[k] = wrapping_add_u64(counts[k], 1);
+    }
+}
+
+// Whether fields k and k + 1 of a line are the number and the place of an answer.
+pub fn is_said(line: &[u8], k: usize, said: Said) -> bool
+    requires { ⌜ k < 32 ⌝ }
+{
+    if said.number as usize != number(line, k) {
+        return false;
+    }
+    said.place == number(line, k + 1)
+}
+
+// Whether a buffer starts with the bytes of field k, and still has the pattern behind them.
+pub fn is_written(line: &[u8], k: usize, buffer: &[u8]) -> bool {
+    let mut wanted = [0u8; 1024];
+    let given = bytes(line, k, &mut wanted);
+    if !given.is_good {
+        return false;
+    }
+    let n = given.count;
+    if !has(buffer, &wanted, n) {
+        return false;
+    }
+    is_kept(buffer, n)
+}
