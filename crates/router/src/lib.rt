@@ -1,0 +1,1 @@
+// The router: a row and two street widths to the first placing's sheet, or a true refusal.
