@@ -1,0 +1,2 @@
+// The drawer: from a sheet to a film of wire records.
+mod levels;
