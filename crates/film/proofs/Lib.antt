@@ -1,1 +1,2 @@
 pub mod Tracks
+pub mod Stamping

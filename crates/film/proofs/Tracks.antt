@@ -22,9 +22,12 @@ unfolding high
 level-fits (pos n) h = record { sfits = omega arith }
 level-fits (negsuc n) h = record { sfits = omega arith }
 
--- the code's bits of a level are the level
-kept : (z : ℤ) → Level z → toZ w8 (ofZ w8 z) ≡ z
+-- the bits of a level, as the code passes it on, are the level's
+pub kept : (z : ℤ) → Level z → toZ w8 (ofZ w8 z) ≡ z
 kept z h = toZ-ofZ w8 z (level-fits z h)
+
+pub kept-high : (z : ℤ) → Level z → high (toZ w8 (ofZ w8 z)) ≡ high z
+kept-high z h = ap high (kept z h)
 
 same-test : (a b c d : ℕ) → (a < b → c < d) → (b ≤ a → d ≤ c) → ltb a b ≡ ltb c d
 same-test a b c d f g = go (ltb a b) refl
@@ -71,6 +74,9 @@ module _ (z : ℤ) (h : Level z) where
 
   pub field-is : natAbs (toZ w8 (ofZ w8 (toZ w8 (ofZ w8 z) +ℤ pos 4))) ≡ high z
   field-is = rw (kept z h) (field z h .is)
+
+  pub field-low : natAbs (toZ w8 (ofZ w8 (toZ w8 (ofZ w8 z) +ℤ pos 4))) ≤ 7
+  field-low = rw field-is (h .top)
 
 -- ---- the level of a position
 

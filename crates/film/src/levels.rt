@@ -38,7 +38,7 @@ pub fn rises(a: i8, b: i8) -> bool
 // A level as the film's field has it.
 pub fn height(level: i8) -> u16
     requires { ⌜ Level level ⌝ }
-    ensures { λ r. ⌜ r ≡ high level ⌝ }
+    ensures { λ r. ⌜ (r ≡ high level) × (r ≤ 7) ⌝ }
 {
     (level + 4) as u16
 }

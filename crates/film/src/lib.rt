@@ -1,2 +1,3 @@
 // The drawer: from a sheet to a film of wire records.
 mod levels;
+mod records;
