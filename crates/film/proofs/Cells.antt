@@ -103,6 +103,12 @@ level-of w k s h =
     let f = rw (wire-at w k s h) at (fine-at w k s h) in
     record { low = f .low; top = f .top }
 
+pub height-of : (w : Wires) (k : ℕ) → Sound w → k < w .count → high (getD (w .levels) k (pos 0)) ≡ wireAt w k .height
+height-of w k s h = ap (λ (v : Wire). v .height) (sym (wire-at w k s h))
+
+pub start-of : (w : Wires) (k : ℕ) → Sound w → k < w .count → getD (w .starts) k 0 < columns
+start-of w k s h = let f = rw (wire-at w k s h) at (fine-at w k s h) in f .since
+
 module _ (w : Wires) (k : ℕ) (z : ℤ) (x : ℕ) (s : Sound w) (h : k < w .count) (l : Level z) (c : x < columns) where
   bend-list : take (w .count) (joined (w .nets) (set (w .levels) k z) (set (w .starts) k x)) ≡ set (listed w) k (bent true (high z) x (wireAt w k))
   unfolding bent

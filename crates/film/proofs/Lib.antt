@@ -1,3 +1,5 @@
 pub mod Tracks
 pub mod Stamping
 pub mod Cells
+pub mod Aims
+pub mod Sweeps

@@ -29,6 +29,9 @@ kept z h = toZ-ofZ w8 z (level-fits z h)
 pub kept-high : (z : ℤ) → Level z → high (toZ w8 (ofZ w8 z)) ≡ high z
 kept-high z h = ap high (kept z h)
 
+pub level-kept : (z : ℤ) → Level z → Level (toZ w8 (ofZ w8 z))
+level-kept z h = rw (kept z h) h
+
 same-test : (a b c d : ℕ) → (a < b → c < d) → (b ≤ a → d ≤ c) → ltb a b ≡ ltb c d
 same-test a b c d f g = go (ltb a b) refl
   where

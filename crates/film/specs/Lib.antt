@@ -1,3 +1,4 @@
 pub mod Heights
 pub mod Stamps
 pub mod Wires
+pub mod Moves
