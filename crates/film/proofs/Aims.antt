@@ -21,7 +21,7 @@ use Rattle.film.proofs.Tracks.{kept}
 pub reached-kept : {h h′ : ℕ} (z : ℤ) → h ≡ h′ → Reached h z → Reached h′ (toZ w8 (ofZ w8 z))
 reached-kept z e r = rw (kept z (r .level), ← e) r
 
-counted-le : (k : Kind) (b : ℕ) → b ≤ counted k b
+pub counted-le : (k : Kind) (b : ℕ) → b ≤ counted k b
 unfolding counted
 counted-le B b = omega arith
 counted-le M b = omega arith

@@ -3,3 +3,4 @@ pub mod Stamping
 pub mod Cells
 pub mod Aims
 pub mod Sweeps
+pub mod Joints

@@ -2,3 +2,4 @@ pub mod Heights
 pub mod Stamps
 pub mod Wires
 pub mod Moves
+pub mod Nodes
