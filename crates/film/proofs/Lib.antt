@@ -4,3 +4,4 @@ pub mod Cells
 pub mod Aims
 pub mod Sweeps
 pub mod Joints
+pub mod Trips

@@ -1,4 +1,5 @@
 // The drawer: from a sheet to a film of wire records.
+pub mod drawer;
 mod levels;
 pub mod moves;
 pub mod nodes;
