@@ -5,3 +5,4 @@ pub mod Aims
 pub mod Sweeps
 pub mod Joints
 pub mod Trips
+pub mod Finish

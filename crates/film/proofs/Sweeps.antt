@@ -33,12 +33,12 @@ laid-append film i (r ∷ a) b =
     laid-append (stamp film i (recBits r)) (suc i) a b
     ∙ ap (λ (k : ℕ). laid (laid (stamp film i (recBits r)) (suc i) a) k b) (omega arith)
 
-recBits-length : (r : Rec) → length (recBits r) ≡ 40
+pub recBits-length : (r : Rec) → length (recBits r) ≡ 40
 unfolding recBits digits
 recBits-length (across n h x y) = refl
 recBits-length (upright n h x y) = refl
 
-stamp-length : (film : List ℕ) (i : ℕ) (r : Rec) → length (stamp film i (recBits r)) ≡ length film
+pub stamp-length : (film : List ℕ) (i : ℕ) (r : Rec) → length (stamp film i (recBits r)) ≡ length film
 unfolding stamp pick
 stamp-length film i r = go (leb (5 * i + 5) (length film)) refl
   where

@@ -126,7 +126,7 @@ node-of e t = rw (← e) t
 -- the records from an entry on
 draw-cons : (ku i b : ℕ) (ws : List Wire) (w : Walk) (n : Node) (es : List Entry) → listed (w .pen .wires) ≡ ws → w .begun ≡ b → n .upper ≡ upper ku (suc (n .above))
     → draw pitch ku i b ws (entry (n .kind) (n .above) ∷ es)
-        ≡ strokes w n i ++ draw pitch ku (suc i) (begun (kindOf n) (w .begun)) (going n (w .begun) (pitch * i) (crossing w n i .wires)) es
+    ≡ strokes w n i ++ draw pitch ku (suc i) (begun (kindOf n) (w .begun)) (going n (w .begun) (pitch * i) (crossing w n i .wires)) es
 unfolding draw
 draw-cons ku i b ws w n es p q u =
     rw (← p, ← q, ← u)

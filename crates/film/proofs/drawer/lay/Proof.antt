@@ -52,9 +52,11 @@ node-at-requires c κs =
     let l = c .before .loop in
     let h = sheetly s (b .pre) .heads in
     let n = got-count (c .before .before .before .get-bits2 .ensures) in
-    let u = got-upper (c .before .before .before .before .get-bits .ensures) in
-    (in-sheet s h (l .i) (omega (arith, c .loop-test .taken)), omega (arith, h .upper),
-    walk-above s (b .args .film .now) (l .i) (l .walk) (l .film) (l .inv) (omega (arith, c .loop-test .taken)) h)
+    let u = got-upper (c .before .before .before .before .get-bits .ensures) in (
+      in-sheet s h (l .i) (omega (arith, c .loop-test .taken)),
+      omega (arith, h .upper),
+      walk-above s (b .args .film .now) (l .i) (l .walk) (l .film) (l .inv) (omega (arith, c .loop-test .taken)) h,
+    )
 
 visit-requires : tie.Need-visit-requires Inv-loop μ-loop
 visit-requires c κs =
