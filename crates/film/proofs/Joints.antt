@@ -50,17 +50,16 @@ module _ (w : Wires) (k d x : ℕ) (film f₁ : List ℕ) (s : Sound w) (h : k <
       rw (wire-at w k s h)
       (e ∙ ap₂ (λ (i j : ℕ). stamp film d (recBits (upright (getD (w .nets) k 0) (min i j) x (max i j)))) p q)
 
-  pub end-drawn : (f₂ : List ℕ) {o₂ : ℕ} → o₂ ≡ high (getD (w .levels) k (pos 0))
-      → f₂ ≡ stamp f₁ (d + 1) (recBits (across (getD (w .nets) k 0) o₂ (getD (w .starts) k 0) x))
-      → f₂ ≡ laid film d (wall x axis (wireAt w k) ∷ ran x (wireAt w k) ∷ [])
-  unfolding laid wall ran
-  end-drawn f₂ q₂ e₂ =
-      rw (wire-at w k s h)
-      (e₂
-      ∙ ap₂ (λ (f : List ℕ) (o : ℕ). stamp f (d + 1) (recBits (across (getD (w .nets) k 0) o (getD (w .starts) k 0) x)))
-      (e ∙ ap₂ (λ (i j : ℕ). stamp film d (recBits (upright (getD (w .nets) k 0) (min i j) x (max i j)))) p q) q₂
-      ∙ ap (λ (i : ℕ). stamp (stamp film d (recBits (upright (getD (w .nets) k 0) (min axis (high (getD (w .levels) k (pos 0)))) x (max axis (high (getD (w .levels) k (pos 0))))))) i (recBits (across (getD (w .nets) k 0) (high (getD (w .levels) k (pos 0))) (getD (w .starts) k 0) x)))
-      (add-one d))
+-- the last run after the stub
+pub end-drawn : (w : Wires) (k d d′ x : ℕ) (film f₁ f₂ : List ℕ) → Sound w → k < w .count → {o : ℕ} → d′ ≡ d + 1 → o ≡ high (getD (w .levels) k (pos 0))
+    → f₁ ≡ laid film d (wall x axis (wireAt w k) ∷ [])
+    → f₂ ≡ stamp f₁ d′ (recBits (across (getD (w .nets) k 0) o (getD (w .starts) k 0) x))
+    → f₂ ≡ laid film d (wall x axis (wireAt w k) ∷ ran x (wireAt w k) ∷ [])
+unfolding laid ran
+end-drawn w k d d′ x film f₁ f₂ s h n q e₁ e₂ =
+    e₂
+    ∙ ap₂ (λ (i o : ℕ). stamp f₁ i (recBits (across (getD (w .nets) k 0) o (getD (w .starts) k 0) x))) (n ∙ add-one d) q
+    ∙ ap₂ (λ (f : List ℕ) (v : Wire). stamp f (suc d) (recBits (across (v .net) (v .height) (v .since) x))) e₁ (sym (wire-at w k s h))
 
 -- ---- kinds
 

@@ -73,8 +73,8 @@ fn rise(film: &mut [u8], pen: Pen, node: Node, q: usize) -> Pen
     let level = target(node, q);
     let wires = pen.wires;
     let old = wires.levels[q];
-    let goes = rises(old, level);
-    step(film, pen, q, level, goes)
+    let up = rises(old, level);
+    step(film, pen, q, level, up)
 }
 
 // Moves the wire with q above it, if it goes down.
@@ -85,8 +85,8 @@ fn fall(film: &mut [u8], pen: Pen, node: Node, q: usize) -> Pen
     let level = target(node, q);
     let wires = pen.wires;
     let old = wires.levels[q];
-    let goes = rises(level, old);
-    step(film, pen, q, level, goes)
+    let down = rises(level, old);
+    step(film, pen, q, level, down)
 }
 
 // The level at a node of the wire that has q above it before: a new wire stands between those above it and those below.

@@ -64,16 +64,17 @@ fn end(film: &mut [u8], pen: Pen, above: usize, x: u16) -> Pen
     ensures { λ r. ⌜ Ended pen above x (now (film .entry)) r (now (film .exit)) ⌝ }
 {
     let wires = pen.wires;
-    let drawn = pen.drawn;
     let net = wires.nets[above];
     let level = wires.levels[above];
     let start = wires.starts[above];
-    put_wall(film, drawn, net, x, 0, level);
-    put_across(film, drawn + 1, net, level, start, x);
+    let stubbed = pass(film, pen, above, x);
+    let column = stubbed.column;
+    let drawn = stubbed.drawn;
+    put_across(film, drawn, net, level, start, x);
     let fewer = wires.remove(above);
     Pen {
         wires: fewer,
-        column: x + 1,
-        drawn: drawn + 2,
+        column,
+        drawn: drawn + 1,
     }
 }
