@@ -1,0 +1,242 @@
+-- The walk over a sheet without a fault: each node is due in its turn, and what is drawn from it on leads to all records of the sheet.
+use mathlib.Core.Path.{_≡_, refl, sym, ap, ap₂, _∙_}
+use mathlib.Core.List.{List, [], _∷_, _++_, append-assoc}
+use mathlib.Core.Option.{none}
+use Prim.Native.Nat.{ℕ, zero, suc, _+_, _-_, _*_, _/_, _%_, _≤_, _<_, min}
+use native.Mathlib.Nat.{add-zero}
+use native.Mathlib.Numerals.{add-one}
+use native.Mathlib.Omega.{arith}
+use lib.ListN.{length, getD, drop, length-append, length-drop}
+use Rattle.rules.specs.Row.{Kind, B, M, E}
+use Rattle.rules.specs.Street.{counted}
+use Rattle.rules.specs.Sheet.{kindIn, Entry, entry, upperOf, lowerOf, countOf, entryAt, entriesOf, begun}
+use Rattle.rules.specs.Judgement.{left, judge}
+use Rattle.rules.specs.Film.{axis, upper, heightAt, target, Rec, Wire, Sweep, gap, ran, wall, opened, closed, ending, draw, records}
+use Rattle.rules.proofs.Fits.{Fits}
+use Rattle.rules.proofs.Legal.{Legal, done, then}
+use Rattle.rules.proofs.Levels.{upper-min}
+use Rattle.street.specs.Order.{capacity}
+use Rattle.sheet.specs.Told.{kindAt, aboveAt}
+use Rattle.sheet.proofs.Heads.{Headed}
+use Rattle.sheet.proofs.Walks.{Sheetly, sheetly, legal-few}
+use Rattle.sheet.proofs.Scans.{length-entries, entries-from, entries-end}
+use Rattle.film.specs.declared.wires.Wires.{Wires}
+use Rattle.film.specs.declared.moves.Pen.{Pen}
+use Rattle.film.specs.declared.moves.Node.{Node}
+use Rattle.film.specs.declared.drawer.Walk.{Walk}
+use Rattle.film.specs.Stamps.{most, laid}
+use Rattle.film.specs.Wires.{columns, listed, Sound, Emptied}
+use Rattle.film.specs.Moves.{aim, Fitting, Swept}
+use Rattle.film.specs.Nodes.{kindOf, standing, own, marks, going, Joinable, Joined}
+use Rattle.film.specs.Walks.{pitch, NodeOf, Due, crossing, strokes, Visited, Lain}
+use Rattle.film.proofs.Aims.{counted-le}
+use Rattle.film.proofs.Sweeps.{laid-append, laid-length}
+
+-- ---- one node
+
+marks-few : (n : Node) (b x : ℕ) (ws : List Wire) → length (marks n b x ws) ≤ 2
+unfolding ending
+marks-few n b x ws = go (kindOf n) (own n b x ws)
+  where
+    go : (k : Kind) (w : Wire) → suc (length (ending k x w)) ≤ 2
+    go B w = omega arith
+    go M w = omega arith
+    go E w = omega arith
+
+module _ (w : Walk) (n : Node) (i : ℕ) (d : Due w n i) (film middle : List ℕ) (c : Pen)
+    (s : Swept (gap (aim n) (w .pen .column - 1) (listed (w .pen .wires))) (w .pen .wires .count + w .pen .wires .count) (w .pen) film c middle) where
+  few : w .pen .wires .count ≤ 6
+  few = d .sound .few
+
+  pub visit-joinable : Joinable c n (w .begun) (pitch * i)
+  visit-joinable =
+      record {
+        sound = s .sound;
+        stands = rw (s .count) (d .stands);
+        few = rw (s .count) (d .few);
+        fitting = rw (s .count) (d .fitting);
+        small = d .small;
+        column = omega (arith, d .near);
+        room = omega (arith, s .room, few, d .room, d .near);
+      }
+
+  from : gap (aim n) (w .pen .column - 1) (listed (w .pen .wires)) ≡ crossing w n i
+  from =
+      let e : w .pen .column - 1 ≡ pitch * (i - 1) = omega (arith, d .column) in
+      ap (λ (x : ℕ). gap (aim n) x (listed (w .pen .wires))) e
+
+  wires : listed (c .wires) ≡ crossing w n i .wires
+  wires = s .list ∙ ap (λ (g : Sweep). g .wires) from
+
+  pub visit-visited : (r : Pen) (after : List ℕ) (b : ℕ) → b ≡ begun (kindOf n) (w .begun) → Joined c n (w .begun) (pitch * i) middle r after
+      → Visited w n i film (record { pen = r; begun = b }) after
+  visit-visited r after b e j =
+      let g : Sweep = crossing w n i in
+      let x : ℕ = pitch * i in
+      let m = ap (λ (l : List Wire). length (marks n (w .begun) x l)) wires in
+      let f = ap (λ (q : Sweep). length (q .film)) from in
+      record {
+        sound = j .sound;
+        count = j .count ∙ ap (left (kindOf n)) (s .count);
+        list = j .list ∙ ap (going n (w .begun) x) wires;
+        column = j .column;
+        nets = e;
+        records = omega (arith, j .records, s .records, length-append (g .film) (marks n (w .begun) x (g .wires)));
+        bytes =
+            j .bytes
+            ∙ ap (λ (l : List Wire). laid middle (c .drawn) (marks n (w .begun) x l)) wires
+            ∙ ap₂ (λ (k : List ℕ) (y : ℕ). laid k y (marks n (w .begun) x (g .wires)))
+            (s .bytes ∙ ap (λ (q : Sweep). laid film (w .pen .drawn) (q .film)) from)
+            (s .records ∙ ap (λ (q : Sweep). w .pen .drawn + length (q .film)) from)
+            ∙ sym (laid-append film (w .pen .drawn) (g .film) (marks n (w .begun) x (g .wires)));
+        room = omega (arith, s .room, few, d .room, j .records, marks-few n (w .begun) x (listed (c .wires)));
+      }
+
+pub begun-more : (f b : ℕ) → f ≡ 0 → b + 1 ≡ begun (kindIn f) b
+unfolding kindIn begun
+begun-more f b e = rw e (add-one b)
+
+pub begun-same : (f b : ℕ) → (f ≡ 0 → ⊥) → b ≡ begun (kindIn f) b
+unfolding kindIn begun
+begun-same zero b h = absurd (h refl)
+begun-same (suc zero) b h = refl
+begun-same (suc (suc f)) b h = refl
+
+-- ---- what a legal entry allows
+
+record Allowed (ku kl b f a : ℕ) (es : List Entry) : Type 0 where
+  fits : Fits ku kl (suc a) (counted (kindIn f) b)
+  rest : Legal ku kl (left (kindIn f) b) es
+
+allowed : {ku kl b f a : ℕ} {es : List Entry} → Legal ku kl b (entry f a ∷ es) → Allowed ku kl b f a es
+allowed (then n h l) = record { fits = h; rest = l }
+
+legal-above : {ku kl b : ℕ} {e : Entry} {es : List Entry} → Legal ku kl b (e ∷ es) → aboveAt e ≤ ku
+unfolding aboveAt
+legal-above (then n h l) = omega (arith, h .upper)
+
+pub above-of : {e : Entry} {f a m : ℕ} → e ≡ entry f a → aboveAt e ≤ m → a ≤ m
+unfolding aboveAt
+above-of p h = rw p at h
+
+-- the tracks as they were read
+pub node-of : {s : List ℕ} {i ku ku′ : ℕ} {n : Node} → ku ≡ ku′ → NodeOf s i ku n → NodeOf s i ku′ n
+node-of e t = rw (← e) t
+
+-- the records from an entry on
+draw-cons : (ku i b : ℕ) (ws : List Wire) (w : Walk) (n : Node) (es : List Entry) → listed (w .pen .wires) ≡ ws → w .begun ≡ b → n .upper ≡ upper ku (suc (n .above))
+    → draw pitch ku i b ws (entry (n .kind) (n .above) ∷ es)
+    ≡ strokes w n i ++ draw pitch ku (suc i) (begun (kindOf n) (w .begun)) (going n (w .begun) (pitch * i) (crossing w n i .wires)) es
+unfolding draw
+draw-cons ku i b ws w n es p q u =
+    rw (← p, ← q, ← u)
+    (sym (append-assoc (crossing w n i .film) (marks n (w .begun) (pitch * i) (crossing w n i .wires))
+    (draw pitch ku (suc i) (begun (kindOf n) (w .begun)) (going n (w .begun) (pitch * i) (crossing w n i .wires)) es)))
+
+-- ---- the walk
+
+module _ (s film₀ : List ℕ) where
+  -- what is drawn from node i on
+  abbrev ahead : ℕ → Walk → List Rec
+  ahead i w = draw pitch (upperOf s) i (w .begun) (listed (w .pen .wires)) (drop i (entriesOf s))
+
+  -- before node i: the wires are legal for the entries from there on, and what is drawn from there on leads to all records
+  pub record Walking (i : ℕ) (w : Walk) (film : List ℕ) : Type 0 where
+    pub within : i ≤ countOf s
+    pub sound : Sound (w .pen .wires)
+    pub legal : Legal (upperOf s) (lowerOf s) (w .pen .wires .count) (drop i (entriesOf s))
+    pub few : 2 * w .begun ≤ i + w .pen .wires .count
+    pub column : w .pen .column ≡ suc (pitch * (i - 1))
+    pub room : w .pen .drawn ≤ 26 * i
+    pub count : w .pen .drawn + length (ahead i w) ≡ length (records pitch s)
+    pub bytes : laid film (w .pen .drawn) (ahead i w) ≡ laid film₀ 0 (records pitch s)
+
+  pub walk-start : (o : Wires) → Sheetly s → Emptied o → Walking 0 (record { pen = record { wires = o; column = 1; drawn = 0 }; begun = 0 }) film₀
+  unfolding records
+  walk-start o h e =
+      record {
+        within = omega arith;
+        sound = e .sound;
+        legal = rw (e .count) (h .legal);
+        few = omega arith;
+        column = refl;
+        room = omega arith;
+        count = rw (e .list) (omega arith);
+        bytes = rw (e .list);
+      }
+
+  module _ (i : ℕ) (w : Walk) (film : List ℕ) (m : Walking i w film) (h : i < countOf s) where
+    -- the node's wire has a row of its own in the table
+    pub walk-above : Headed s → aboveAt (entryAt s i) ≤ 3
+    walk-above d = omega (arith, legal-above (rw (entries-from s i h) at (m .legal)), d .upper)
+
+    module _ (n : Node) (t : NodeOf s i (upperOf s) n) (d : Headed s) where
+      here : Allowed (upperOf s) (lowerOf s) (w .pen .wires .count) (n .kind) (n .above) (drop (suc i) (entriesOf s))
+      here = allowed (rw (entries-from s i h, t .is) at (m .legal))
+
+      pub walk-due : Due w n i
+      unfolding begun left counted
+      walk-due =
+          let f = here .fits in
+          let u : n .upper ≡ min (suc (n .above)) (upperOf s) = t .upper ∙ upper-min (upperOf s) (n .above) (d .upper) (omega (arith, f .upper)) in
+          record {
+            sound = m .sound;
+            stands = f .high;
+            few = omega (arith, f .sum, d .upper, d .lower);
+            fitting = record { upper = omega (arith, d .upper); deep = omega (arith, f .sum, f .lower, f .upper, d .lower) };
+            small = go (kindOf n) (legal-few (here .rest));
+            near = omega (arith, d .high);
+            column = m .column;
+            room = m .room;
+          }
+        where
+          go : (k : Kind) → left k (w .pen .wires .count) ≤ length (drop (suc i) (entriesOf s)) → begun k (w .begun) ≤ 256
+          go B l = omega (arith, length-drop (suc i) (entriesOf s), length-entries s, m .few, d .high)
+          go M l = omega (arith, length-drop (suc i) (entriesOf s), length-entries s, m .few, d .high)
+          go E l = omega (arith, length-drop (suc i) (entriesOf s), length-entries s, m .few, d .high)
+
+      module _ (r : Walk) (after : List ℕ) (v : Visited w n i film r after) where
+        -- what is drawn from node i on is drawn for it, and then from the next on
+        parts : ahead i w ≡ strokes w n i ++ ahead (suc i) r
+        parts =
+            ap (draw pitch (upperOf s) i (w .begun) (listed (w .pen .wires))) (entries-from s i h ∙ ap (λ (e : Entry). e ∷ drop (suc i) (entriesOf s)) (t .is))
+            ∙ draw-cons (upperOf s) i (w .begun) (listed (w .pen .wires)) w n (drop (suc i) (entriesOf s)) refl refl (t .upper)
+            ∙ ap₂ (λ (b : ℕ) (ws : List Wire). strokes w n i ++ draw pitch (upperOf s) (suc i) b ws (drop (suc i) (entriesOf s))) (sym (v .nets)) (sym (v .list))
+
+        pub walk-step : Walking (i + 1) r after
+        unfolding begun left counted
+        walk-step =
+            let p = ap (λ (l : List Rec). length l) parts in
+            rw (add-one i)
+            (record {
+              within = h;
+              sound = v .sound;
+              legal = rw (v .count) (here .rest);
+              few = rw (v .count, v .nets) (go (kindOf n) (here .fits .high));
+              column = omega (arith, v .column);
+              room = v .room;
+              count = omega (arith, v .records, m .count, length-append (strokes w n i) (ahead (suc i) r));
+              bytes =
+                  ap₂ (λ (f : List ℕ) (k : ℕ). laid f k (ahead (suc i) r)) (v .bytes) (v .records)
+                  ∙ sym (laid-append film (w .pen .drawn) (strokes w n i) (ahead (suc i) r))
+                  ∙ ap (laid film (w .pen .drawn)) (sym parts)
+                  ∙ m .bytes;
+            })
+          where
+            go : (k : Kind) → suc (n .above) ≤ counted k (w .pen .wires .count) → 2 * begun k (w .begun) ≤ suc i + left k (w .pen .wires .count)
+            go B l = omega (arith, m .few)
+            go M l = omega (arith, m .few)
+            go E l = omega (arith, m .few)
+
+  pub walk-kept : (i : ℕ) (w : Walk) (film : List ℕ) → Walking i w film → length film ≡ length film₀
+  walk-kept i w film m =
+      sym (laid-length film (w .pen .drawn) (ahead i w)) ∙ ap length (m .bytes) ∙ laid-length film₀ 0 (records pitch s)
+
+  pub walk-end : (i : ℕ) (w : Walk) (film : List ℕ) → Walking i w film → countOf s ≤ i → Headed s → Lain s film₀ (w .pen .drawn) film
+  unfolding draw laid
+  walk-end i w film m h d =
+      let e : i ≡ countOf s = omega (arith, m .within) in
+      let none : drop i (entriesOf s) ≡ [] = entries-end s i e in
+      let count = rw none at (m .count) in
+      let bytes = rw none at (m .bytes) in
+      record { count = sym (add-zero (w .pen .drawn)) ∙ count; few = omega (arith, m .room, d .high); bytes = bytes }

@@ -1,0 +1,44 @@
+// Levels: upper tracks are 1, 2, 3 going up, lower tracks −1, −2, −3 going down, the axis with its pins is 0.
+ghost use mathlib.Core.Path.{_≡_};
+ghost use Prim.Native.Nat.{suc, _+_, _≤_};
+ghost use lib.Dec.{ltb};
+ghost use Rattle.rules.specs.Film.{upper, heightAt};
+ghost use Rattle.film.specs.Heights.{high, Level, Reached};
+
+// u, the number of wires laid in the upper street: a line for each Ku from 0, in it a number for each p from 1. Blank cells are 0.
+const UPPER: [[u8; 4]; 4] = [[0, 0, 0, 0], [1, 1, 0, 0], [1, 2, 2, 0], [1, 2, 3, 3]];
+
+// The number of wires in the upper street at a node with so many wires above its own.
+pub fn upper_wires(ku: usize, above: usize) -> usize
+    requires { ⌜ (ku ≤ 3) × (above ≤ 3) ⌝ }
+    ensures { λ r. ⌜ r ≡ upper ku (suc above) ⌝ }
+{
+    UPPER[ku][above] as usize
+}
+
+// The level of the wire at position q, from 1, where u wires are in the upper street.
+pub fn level_at(u: usize, q: usize) -> i8
+    requires { ⌜ (u ≤ 3) × (1 ≤ q) × (q ≤ u + 3) ⌝ }
+    ensures { λ r. ⌜ Reached (heightAt u q) r ⌝ }
+{
+    if q <= u {
+        return (u - q + 1) as i8;
+    }
+    -((q - u) as i8)
+}
+
+// Whether level b is above level a.
+pub fn rises(a: i8, b: i8) -> bool
+    requires { ⌜ Level a × Level b ⌝ }
+    ensures { λ r. ⌜ r ≡ ltb (high a) (high b) ⌝ }
+{
+    a < b
+}
+
+// A level as the film's field has it.
+pub fn height(level: i8) -> u16
+    requires { ⌜ Level level ⌝ }
+    ensures { λ r. ⌜ (r ≡ high level) × (r ≤ 7) ⌝ }
+{
+    (level + 4) as u16
+}
