@@ -13,7 +13,7 @@ use Rattle.rules.specs.Street.{counted}
 use Rattle.rules.specs.Sheet.{kindIn, begun}
 use Rattle.rules.specs.Judgement.{left}
 use Rattle.rules.specs.Film.{axis, heightAt, Rec, across, upright, recBits, Wire, ran, wall, opened, closed, ending}
-use Rattle.street.proofs.Orders.{getD-put}
+use Rattle.rules.proofs.Lists.{getD-put}
 use Rattle.film.specs.declared.wires.Wires.{Wires}
 use Rattle.film.specs.declared.moves.Pen.{Pen}
 use Rattle.film.specs.declared.moves.Node.{Node}

@@ -18,8 +18,9 @@ use Rattle.rules.proofs.Levels.{upper-min}
 use Rattle.street.specs.Order.{capacity}
 use Rattle.sheet.specs.Told.{kindAt, aboveAt}
 use Rattle.sheet.proofs.Heads.{Headed}
-use Rattle.sheet.proofs.Walks.{Sheetly, sheetly, legal-few}
-use Rattle.sheet.proofs.Scans.{length-entries, entries-from, entries-end}
+use Rattle.sheet.proofs.Walks.{Faultless, faultless, legal-few}
+use Rattle.rules.proofs.SheetFields.{length-entriesOf}
+use Rattle.sheet.proofs.Scans.{entries-from, entries-end}
 use Rattle.film.specs.declared.wires.Wires.{Wires}
 use Rattle.film.specs.declared.moves.Pen.{Pen}
 use Rattle.film.specs.declared.moves.Node.{Node}
@@ -151,7 +152,7 @@ module _ (s film₀ : List ℕ) where
     pub count : w .pen .drawn + length (ahead i w) ≡ length (records pitch s)
     pub bytes : laid film (w .pen .drawn) (ahead i w) ≡ laid film₀ 0 (records pitch s)
 
-  pub walk-start : (o : Wires) → Sheetly s → Emptied o → Walking 0 (record { pen = record { wires = o; column = 1; drawn = 0 }; begun = 0 }) film₀
+  pub walk-start : (o : Wires) → Faultless s → Emptied o → Walking 0 (record { pen = record { wires = o; column = 1; drawn = 0 }; begun = 0 }) film₀
   unfolding records
   walk-start o h e =
       record {
@@ -191,9 +192,9 @@ module _ (s film₀ : List ℕ) where
           }
         where
           go : (k : Kind) → left k (w .pen .wires .count) ≤ length (drop (suc i) (entriesOf s)) → begun k (w .begun) ≤ 256
-          go B l = omega (arith, length-drop (suc i) (entriesOf s), length-entries s, m .few, d .high)
-          go M l = omega (arith, length-drop (suc i) (entriesOf s), length-entries s, m .few, d .high)
-          go E l = omega (arith, length-drop (suc i) (entriesOf s), length-entries s, m .few, d .high)
+          go B l = omega (arith, length-drop (suc i) (entriesOf s), length-entriesOf s, m .few, d .high)
+          go M l = omega (arith, length-drop (suc i) (entriesOf s), length-entriesOf s, m .few, d .high)
+          go E l = omega (arith, length-drop (suc i) (entriesOf s), length-entriesOf s, m .few, d .high)
 
       module _ (r : Walk) (after : List ℕ) (v : Visited w n i film r after) where
         -- what is drawn from node i on is drawn for it, and then from the next on

@@ -3,7 +3,7 @@ use mathlib.Core.Path.{_≡_, refl, ap}
 use mathlib.Core.Bool.{Bool, true, false}
 use mathlib.Core.List.{List, [], _∷_}
 use Prim.Native.Nat.{ℕ, zero, suc, _≤_, _<_}
-use lib.ListN.{length}
+use lib.ListN.{length, getD}
 use lib.Dec.{eqb}
 use native.Mathlib.Omega.{arith}
 use Rattle.rules.specs.Basic.{pick, put, cut}
@@ -36,3 +36,11 @@ before-le x (y ∷ o) = go (eqb y x) (before-le x o)
     go : (b : Bool) → before x o ≤ length o → pick b 0 (suc (before x o)) ≤ suc (length o)
     go true h = omega arith
     go false h = omega arith
+
+module _ {ℓ} {A : Type ℓ} where
+  -- what is put in stands at its place
+  pub getD-put : (k : ℕ) (x d : A) (l : List A) → k ≤ length l → getD (put k x l) k d ≡ x
+  unfolding put
+  getD-put zero x d l w = refl
+  getD-put (suc k) x d [] w = absurd (omega arith)
+  getD-put (suc k) x d (y ∷ l) w = getD-put k x d l (omega arith)

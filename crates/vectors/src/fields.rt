@@ -1,4 +1,4 @@
-// The fields of a line: bytes in hex, with `-` for none, and decimal numbers of at most three digits, one space apart.
+// The fields of a line: bytes in hex, with `-` for none, and decimal numbers of at most four digits, one space apart.
 ghost use Prim.Native.Nat.{_*_, _≤_};
 ghost use lib.ListN.{length};
 ghost use Rattle.vectors.specs.Text.{Found, Part, Taken};
@@ -16,7 +16,7 @@ pub struct Given {
 }
 
 // Answered for a field that is no number.
-const NO_NUMBER: usize = 9999;
+const NO_NUMBER: usize = 99999;
 
 // The first index of a byte in a text, at or behind `at`, or the text's length.
 pub fn find(text: &[u8], at: usize, byte: u8) -> usize
@@ -151,7 +151,7 @@ fn number_of(text: &[u8]) -> usize {
         if x > 9 {
             return NO_NUMBER;
         }
-        if value > 99 {
+        if value > 999 {
             return NO_NUMBER;
         }
         value = value * 10 + x as usize;

@@ -1,10 +1,12 @@
 // Has the library answer every line of the outside vectors in data/, and prints how many disagree.
+mod ask_drawer;
 mod ask_reader;
 mod ask_router;
 mod buffers;
 mod fields;
 mod told;
 
+use ask_drawer::drawer_line;
 use ask_reader::reader_line;
 use ask_router::router_line;
 use fields::find;
@@ -15,6 +17,7 @@ use std::num::wrapping_add_u64;
 enum Asked {
     Router,
     Reader,
+    Drawer,
 }
 
 const TEXT: usize = 524288;
@@ -22,8 +25,10 @@ const TEXT: usize = 524288;
 fn main() {
     ask(Asked::Router, b"router.txt");
     ask(Asked::Reader, b"sheets.txt");
+    ask(Asked::Drawer, b"sheets.txt");
     ask(Asked::Router, b"wrong-router.txt");
     ask(Asked::Reader, b"wrong-sheets.txt");
+    ask(Asked::Drawer, b"wrong-films.txt");
 }
 
 // Answers a file of under 524,288 bytes.
@@ -63,6 +68,7 @@ fn line_right(asked: Asked, line: &[u8], counts: &mut [u64; 32]) -> bool {
     match asked {
         Asked::Router => router_line(line, counts),
         Asked::Reader => reader_line(line, counts),
+        Asked::Drawer => drawer_line(line, counts),
     }
 }
 

@@ -6,7 +6,7 @@ use native.Mathlib.Omega.{arith}
 use borrow.Author.Needs.{needs}
 use Rattle.rules.specs.Sheet.{upperOf, countOf}
 use Rattle.sheet.proofs.Heads.{got-upper, got-count, in-sheet}
-use Rattle.sheet.proofs.Walks.{sheetly}
+use Rattle.sheet.proofs.Walks.{faultless}
 use Rattle.film.specs.Walks.{NodeOf}
 use Rattle.film.proofs.Trips.{Walking, walk-start, walk-above, walk-due, walk-step, walk-kept, walk-end, node-of}
 use Rattle.film.proofs.drawer.lay.Statement.{statement}
@@ -21,7 +21,7 @@ abbrev μ-loop : tie.MeasureT-loop
 get-bits-requires : tie.Need-get-bits-requires Inv-loop μ-loop
 get-bits-requires c κs =
     let b = c .before .before in
-    let h = sheetly (b .args .s .now) (b .pre) .heads in
+    let h = faultless (b .args .s .now) (b .pre) .heads in
     omega arith
 
 cast-ku : tie.Need-cast-ku Inv-loop μ-loop
@@ -30,7 +30,7 @@ cast-ku c = search needs
 get-bits-requires-2 : tie.Need-get-bits-requires-2 Inv-loop μ-loop
 get-bits-requires-2 c κs =
     let b = c .before .before .before in
-    let h = sheetly (b .args .s .now) (b .pre) .heads in
+    let h = faultless (b .args .s .now) (b .pre) .heads in
     omega arith
 
 cast-n : tie.Need-cast-n Inv-loop μ-loop
@@ -43,14 +43,14 @@ loop-holds : tie.Need-loop-holds Inv-loop μ-loop
 loop-holds c =
     let b = c .before .before .before .before .before in
     let s = b .args .s .now in
-    walk-start s (b .args .film .now) (c .new .result) (sheetly s (b .pre)) (c .new .ensures)
+    walk-start s (b .args .film .now) (c .new .result) (faultless s (b .pre)) (c .new .ensures)
 
 node-at-requires : tie.Need-node-at-requires Inv-loop μ-loop
 node-at-requires c κs =
     let b = c .before .before .before .before .before .before .before in
     let s = b .args .s .now in
     let l = c .before .loop in
-    let h = sheetly s (b .pre) .heads in
+    let h = faultless s (b .pre) .heads in
     let n = got-count (c .before .before .before .get-bits2 .ensures) in
     let u = got-upper (c .before .before .before .before .get-bits .ensures) in (
       in-sheet s h (l .i) (omega (arith, c .loop-test .taken)),
@@ -63,7 +63,7 @@ visit-requires c κs =
     let b = c .before .before .before .before .before .before .before .before .before in
     let s = b .args .s .now in
     let l = c .before .before .before .loop in
-    let h = sheetly s (b .pre) .heads in
+    let h = faultless s (b .pre) .heads in
     let n = got-count (c .before .before .before .before .before .get-bits2 .ensures) in
     let u = got-upper (c .before .before .before .before .before .before .get-bits .ensures) in
     let k = c .before .node-at in
@@ -82,7 +82,7 @@ loop-again c =
     let b = c .before .before .before .before .before .before .before .before .before .before .before .before in
     let s = b .args .s .now in
     let l = c .before .before .before .before .before .before .loop in
-    let h = sheetly s (b .pre) .heads in
+    let h = faultless s (b .pre) .heads in
     let n = got-count (c .before .before .before .before .before .before .before .before .get-bits2 .ensures) in
     let u = got-upper (c .before .before .before .before .before .before .before .before .before .get-bits .ensures) in
     let k = c .before .before .before .before .node-at in
@@ -101,7 +101,7 @@ returns c =
     let b = c .before .before .before .before .before .before .before .before in
     let s = b .args .s .now in
     let l = c .before .before .loop in
-    let h = sheetly s (b .pre) .heads in
+    let h = faultless s (b .pre) .heads in
     let n = got-count (c .before .before .before .before .get-bits2 .ensures) in
     walk-end s (b .args .film .now) (l .i) (l .walk) (l .film) (l .inv) (omega (arith, c .before .loop-test .left)) h
 
