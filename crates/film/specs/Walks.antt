@@ -12,7 +12,7 @@ use Rattle.rules.specs.Answers.{drawing, FilmAfter}
 use Rattle.street.specs.Order.{capacity}
 use Rattle.film.specs.declared.moves.Node.{Node}
 use Rattle.film.specs.declared.drawer.Walk.{Walk}
-use Rattle.film.specs.Stamps.{most, laid}
+use Rattle.film.specs.Stamps.{laid}
 use Rattle.film.specs.Wires.{listed, Sound}
 use Rattle.film.specs.Moves.{aim, Fitting}
 use Rattle.film.specs.Nodes.{kindOf, marks, going}

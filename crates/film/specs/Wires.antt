@@ -6,7 +6,7 @@ use Prim.Native.Nat.{ℕ, _+_, _≤_, _<_}
 use lib.ListN.{length, getD, take, set}
 use lib.IntN.{ℤ, pos}
 use Rattle.rules.specs.Basic.{put, cut}
-use Rattle.rules.specs.Film.{axis, Wire, bent}
+use Rattle.rules.specs.Film.{Wire, bent}
 use Rattle.street.specs.Order.{capacity}
 use Rattle.film.specs.declared.wires.Wires.{Wires}
 use Rattle.film.specs.Heights.{high}
