@@ -34,9 +34,6 @@ paste-both l d e i n m p q h =
 -- ---- five bytes pasted are their 40 bits pasted
 
 module _ (film l : List ℕ) (i : ℕ) (b : Below 256 film) (f : Below 2 l) (n : length l ≡ 40) (h : 5 * i + 5 ≤ length film) where
-  after : List ℕ
-  after = paste film (5 * i) (bytes l) 5
-
   five : length (bytes l) ≡ 5
   five = length-bytes 5 l n
 

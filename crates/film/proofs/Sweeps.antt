@@ -79,15 +79,6 @@ module _ (p : Pen) (q : ℕ) (film : List ℕ) where
       })
 
   module _ (s : Sound (p .wires)) (l : q < p .wires .count) (b : Bool) (e : b ≡ true) (z : ℤ) where
-    net : ℕ
-    net = getD (p .wires .nets) q 0
-
-    old : ℕ
-    old = high (getD (p .wires .levels) q (pos 0))
-
-    start : ℕ
-    start = getD (p .wires .starts) q 0
-
     -- a run that ends and a vertical; the heights as they were handed on
     pub step-moves : (f₁ f₂ : List ℕ) (w : Wires) {o₁ o₂ t : ℕ} {z₃ : ℤ}
         → o₁ ≡ high (getD (p .wires .levels) q (pos 0)) → o₂ ≡ high (getD (p .wires .levels) q (pos 0)) → t ≡ high z → z₃ ≡ z
