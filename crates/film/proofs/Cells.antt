@@ -18,7 +18,8 @@ use Rattle.street.specs.Order.{capacity}
 use Rattle.street.proofs.Orders.{put-carried, put-stored, cut-moved, cut-last}
 use Rattle.film.specs.declared.wires.Wires.{Wires}
 use Rattle.film.specs.Heights.{high, Level}
-use Rattle.film.specs.Wires.{columns, wire, joined, cells, listed, blank, wireAt, Fine, Sane, nil, cons, Sound, Inserted, Removed, Moved}
+use Rattle.film.specs.Stamps.{columns}
+use Rattle.film.specs.Wires.{wire, joined, cells, listed, blank, wireAt, Fine, Sane, nil, cons, Sound, Inserted, Removed, Moved}
 
 -- ---- three arrays as one list
 

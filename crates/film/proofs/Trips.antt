@@ -23,7 +23,7 @@ use Rattle.film.specs.declared.wires.Wires.{Wires}
 use Rattle.film.specs.declared.moves.Pen.{Pen}
 use Rattle.film.specs.declared.moves.Node.{Node}
 use Rattle.film.specs.declared.drawer.Walk.{Walk}
-use Rattle.film.specs.Stamps.{laid}
+use Rattle.film.specs.Stamps.{each, laid}
 use Rattle.film.specs.Wires.{listed, Sound, Emptied}
 use Rattle.film.specs.Moves.{aim, Swept}
 use Rattle.film.specs.Nodes.{kindOf, own, marks, going, Joinable, Joined}
@@ -145,7 +145,7 @@ module _ (s film₀ : List ℕ) where
     pub legal : Legal (upperOf s) (lowerOf s) (w .pen .wires .count) (drop i (entriesOf s))
     pub few : 2 * w .begun ≤ i + w .pen .wires .count
     pub column : w .pen .column ≡ suc (pitch * (i - 1))
-    pub room : w .pen .drawn ≤ 26 * i
+    pub room : w .pen .drawn ≤ each * i
     pub count : w .pen .drawn + length (ahead i w) ≡ length (records pitch s)
     pub bytes : laid film (w .pen .drawn) (ahead i w) ≡ laid film₀ 0 (records pitch s)
 

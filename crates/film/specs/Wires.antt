@@ -10,10 +10,7 @@ use Rattle.rules.specs.Film.{Wire, bent}
 use Rattle.street.specs.Order.{capacity}
 use Rattle.film.specs.declared.wires.Wires.{Wires}
 use Rattle.film.specs.Heights.{high}
-
--- the columns that a record's field can hold
-abbrev pub columns : ℕ
-columns = 8192
+use Rattle.film.specs.Stamps.{columns}
 
 -- a wire of the code, by its level
 abbrev pub wire : (net : ℕ) (level : ℤ) (start : ℕ) → Wire
