@@ -1,5 +1,5 @@
 -- The height that a wire has to reach at a node, by the node's kind field, and the bounds that keep it on a track.
-use mathlib.Core.Path.{_≡_, refl, sym, ap, _∙_}
+use mathlib.Core.Path.{_≡_, refl}
 use Prim.Native.Nat.{ℕ, zero, suc, _+_, _≤_, _<_}
 use native.Mathlib.Omega.{arith}
 use native.Mathlib.Numerals.{add-one}
@@ -13,7 +13,7 @@ use Rattle.rules.specs.Street.{counted}
 use Rattle.rules.specs.Sheet.{kindIn}
 use Rattle.rules.specs.Film.{target, heightAt}
 use Rattle.film.specs.declared.moves.Node.{Node}
-use Rattle.film.specs.Heights.{Level, Reached}
+use Rattle.film.specs.Heights.{Reached}
 use Rattle.film.specs.Moves.{aim, Fitting}
 use Rattle.film.proofs.Tracks.{kept}
 

@@ -6,7 +6,7 @@ use Prim.Native.Nat.{ℕ, zero, suc, _+_, _≤_, _<_}
 use native.Mathlib.Nat.{not-suc-le-zero, le-of-suc-le-suc}
 use native.Mathlib.Numerals.{add-one}
 use native.Mathlib.Omega.{arith}
-use lib.ListN.{length, getD, take, drop, set, length-set, length-take}
+use lib.ListN.{length, getD, take, set, length-set}
 use lib.Seq.{length-take-le, getD-take, take-set-lt, set-getD}
 use lib.IntN.{ℤ, pos}
 use mir.Syntax.{w8}
@@ -18,8 +18,8 @@ use Rattle.street.specs.Order.{capacity}
 use Rattle.street.proofs.Orders.{put-carried, put-stored, cut-moved, cut-last}
 use Rattle.film.specs.declared.wires.Wires.{Wires}
 use Rattle.film.specs.Heights.{high, Level}
-use Rattle.film.specs.Wires.{columns, wire, joined, cells, listed, blank, wireAt, Fine, Sane, nil, cons, Sound, Emptied, Inserted, Removed, Moved}
-use Rattle.film.proofs.Tracks.{kept}
+use Rattle.film.specs.Stamps.{columns}
+use Rattle.film.specs.Wires.{wire, joined, cells, listed, blank, wireAt, Fine, Sane, nil, cons, Sound, Inserted, Removed, Moved}
 
 -- ---- three arrays as one list
 

@@ -1,13 +1,12 @@
 -- The drawer's answer, test by test, with the film's bytes: records laid on a film that has room for them fill its start.
 use mathlib.Core.Path.{_≡_, refl, sym, ap, ap₂, _∙_}
 use mathlib.Core.List.{List, [], _∷_, _++_, append-assoc}
-use mathlib.Core.Option.{Option, none, some, Option·map}
-use Prim.Native.Nat.{ℕ, zero, suc, _+_, _*_, _≤_, _<_}
+use mathlib.Core.Option.{none, some}
+use Prim.Native.Nat.{ℕ, suc, _+_, _*_, _≤_, _<_}
 use native.Mathlib.Nat.{add-zero}
 use native.Mathlib.Omega.{arith}
 use lib.ListN.{length, take, drop, length-append, take-append-drop}
 use lib.Seq.{take-all, drop-drop, paste, take-paste, drop-paste}
-use lib.Dec.{ltb, leb}
 use borrow.Author.Tests.{lt-ltb, le-ltb, le-leb}
 use Rattle.rules.specs.declared.Fault.{Fault}
 use Rattle.rules.specs.declared.Drawing.{Drawing}
@@ -18,7 +17,7 @@ use Rattle.rules.specs.Judgement.{judge}
 use Rattle.rules.specs.Answers.{written, drawing, Reordered, FilmAfter}
 use Rattle.rules.proofs.Fields.{length-bytes}
 use Rattle.film.specs.Stamps.{stamp, laid}
-use Rattle.film.specs.Walks.{pitch, Lain, Drawn}
+use Rattle.film.specs.Walks.{pitch, Drawn}
 use Rattle.film.proofs.Sweeps.{recBits-length, stamp-length}
 
 five : (r : Rec) → length (bytes (recBits r)) ≡ 5

@@ -8,22 +8,20 @@ use native.Mathlib.Omega.{arith}
 use lib.ListN.{length, getD}
 use lib.IntN.{ℤ, pos}
 use Rattle.rules.specs.Basic.{put}
-use Rattle.rules.specs.Row.{Kind, B, M, E}
+use Rattle.rules.specs.Row.{B, M, E}
 use Rattle.rules.specs.Street.{counted}
 use Rattle.rules.specs.Sheet.{kindIn, begun}
 use Rattle.rules.specs.Judgement.{left}
-use Rattle.rules.specs.Film.{axis, heightAt, Rec, across, upright, recBits, Wire, ran, wall, opened, closed, ending}
+use Rattle.rules.specs.Film.{axis, heightAt, across, upright, recBits, Wire, ran, wall, opened, closed, ending}
 use Rattle.rules.proofs.Lists.{getD-put}
 use Rattle.film.specs.declared.wires.Wires.{Wires}
 use Rattle.film.specs.declared.moves.Pen.{Pen}
 use Rattle.film.specs.declared.moves.Node.{Node}
-use Rattle.film.specs.Heights.{high, Level, Reached}
-use Rattle.film.specs.Stamps.{most, stamp, laid}
-use Rattle.film.specs.Wires.{columns, wire, listed, blank, wireAt, Sound, Inserted, Removed}
-use Rattle.film.specs.Moves.{Fitting}
-use Rattle.film.specs.Nodes.{kindOf, standing, own, marks, going, Joinable, Joined, Open, Stubbed, Ended}
+use Rattle.film.specs.Heights.{high, Level}
+use Rattle.film.specs.Stamps.{stamp, laid}
+use Rattle.film.specs.Wires.{wire, listed, blank, wireAt, Sound, Inserted}
+use Rattle.film.specs.Nodes.{kindOf, Joinable, Joined, Open, Stubbed, Ended}
 use Rattle.film.proofs.Cells.{length-listed, wire-at}
-use Rattle.film.proofs.Aims.{counted-le}
 
 -- what stands in a list is the same whatever stands past its end
 pub getD-any {ℓ} : {A : Type ℓ} (l : List A) (i : ℕ) (d e : A) → i < length l → getD l i d ≡ getD l i e

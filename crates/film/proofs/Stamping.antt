@@ -1,17 +1,17 @@
 -- Three fields that are put one after the other are five bytes of a record, and a record's bits are such fields.
-use mathlib.Core.Path.{_≡_, refl, sym, ap, ap₂, _∙_}
-use mathlib.Core.List.{List, [], _∷_, _++_, append-assoc}
-use Prim.Native.Nat.{ℕ, zero, suc, _+_, _*_, _^_, _≤_, _<_, min, max}
+use mathlib.Core.Path.{_≡_, sym, ap, ap₂, _∙_}
+use mathlib.Core.List.{List, _++_, append-assoc}
+use Prim.Native.Nat.{ℕ, _+_, _*_, _^_, _≤_, _<_, min, max}
 use native.Mathlib.Nat.{add-assoc}
 use native.Mathlib.Omega.{arith}
-use lib.ListN.{length, getD, take, drop, length-append, length-take, length-drop}
-use lib.Seq.{take-all, drop-drop, paste, length-paste, take-paste, drop-paste}
-use lib.Dec.{leb, ltb}
+use lib.ListN.{length, getD, take, drop, length-append}
+use lib.Seq.{take-all, drop-drop, paste, take-paste, drop-paste}
+use lib.Dec.{ltb}
 use mathlib.Core.Bool.{true, false}
 use borrow.Author.Tests.{ltb-true, ltb-false, le-leb, lt-leb}
 use Rattle.rules.specs.Basic.{pick}
 use Rattle.rules.specs.Bits.{digits, bits, bytes, Below}
-use Rattle.rules.specs.Film.{Rec, across, upright, recBits}
+use Rattle.rules.specs.Film.{across, upright, recBits}
 use Rattle.rules.proofs.Fields.{length-digits, length-pack, length-bytes, below-append, below-take, below-drop, below-digits, below-bytes, below-from, digits-join, pack-append, take-pack, drop-pack, bytes-bits, bits-bytes}
 use Rattle.bits.specs.Access.{Put}
 use Rattle.film.specs.Stamps.{stamp, laid}
@@ -34,9 +34,6 @@ paste-both l d e i n m p q h =
 -- ---- five bytes pasted are their 40 bits pasted
 
 module _ (film l : List ℕ) (i : ℕ) (b : Below 256 film) (f : Below 2 l) (n : length l ≡ 40) (h : 5 * i + 5 ≤ length film) where
-  after : List ℕ
-  after = paste film (5 * i) (bytes l) 5
-
   five : length (bytes l) ≡ 5
   five = length-bytes 5 l n
 

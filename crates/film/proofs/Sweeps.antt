@@ -1,13 +1,13 @@
 -- One move, the loops of a gap, and the gap: wires, columns and film after them are those of the definition's climb, sink and gap.
 use mathlib.Core.Path.{_≡_, refl, sym, ap, ap₂, _∙_}
 use mathlib.Core.Bool.{Bool, true, false}
-use mathlib.Core.List.{List, [], _∷_, _++_, append-assoc, append-nil}
-use Prim.Native.Nat.{ℕ, zero, suc, _+_, _-_, _*_, _≤_, _<_, min, max}
+use mathlib.Core.List.{List, [], _∷_, _++_, append-nil}
+use Prim.Native.Nat.{ℕ, suc, _+_, _-_, _*_, _≤_, _<_, min, max}
 use native.Mathlib.Nat.{add-zero}
 use native.Mathlib.Numerals.{add-one}
 use native.Mathlib.Omega.{arith}
-use lib.ListN.{length, getD, take, drop, set, length-append, length-set, length-take, List·getD-append}
-use lib.Seq.{set-getD, take-suc-set, take-suc, drop-set-lt, drop-cons, drop-length, take-length, append-snoc, set-at, take-all, paste, length-paste, length-take-le, getD-take}
+use lib.ListN.{length, getD, take, drop, set, length-append, List·getD-append}
+use lib.Seq.{set-getD, take-suc-set, take-suc, drop-set-lt, drop-cons, drop-length, take-length, append-snoc, set-at, paste, length-paste, length-take-le, getD-take}
 use lib.Dec.{ltb, leb}
 use borrow.Author.Tests.{leb-true}
 use lib.IntN.{ℤ, pos}
@@ -17,11 +17,10 @@ use Rattle.rules.proofs.Fields.{length-bytes}
 use Rattle.rules.specs.Film.{Rec, across, upright, recBits, Wire, Sweep, ran, wall, bent, drawn, climb, sink, gap}
 use Rattle.film.specs.declared.wires.Wires.{Wires}
 use Rattle.film.specs.declared.moves.Pen.{Pen}
-use Rattle.film.specs.declared.moves.Node.{Node}
-use Rattle.film.specs.Heights.{high, Level}
+use Rattle.film.specs.Heights.{high}
 use Rattle.film.specs.Stamps.{stamp, laid}
 use Rattle.film.specs.Wires.{wire, listed, blank, wireAt, Sound, Moved}
-use Rattle.film.specs.Moves.{aim, Fitting, Able, Stepped, Swept}
+use Rattle.film.specs.Moves.{Stepped, Swept}
 use Rattle.film.proofs.Cells.{length-listed, wire-at}
 
 -- ---- records laid one after the other
@@ -80,15 +79,6 @@ module _ (p : Pen) (q : ℕ) (film : List ℕ) where
       })
 
   module _ (s : Sound (p .wires)) (l : q < p .wires .count) (b : Bool) (e : b ≡ true) (z : ℤ) where
-    net : ℕ
-    net = getD (p .wires .nets) q 0
-
-    old : ℕ
-    old = high (getD (p .wires .levels) q (pos 0))
-
-    start : ℕ
-    start = getD (p .wires .starts) q 0
-
     -- a run that ends and a vertical; the heights as they were handed on
     pub step-moves : (f₁ f₂ : List ℕ) (w : Wires) {o₁ o₂ t : ℕ} {z₃ : ℤ}
         → o₁ ≡ high (getD (p .wires .levels) q (pos 0)) → o₂ ≡ high (getD (p .wires .levels) q (pos 0)) → t ≡ high z → z₃ ≡ z

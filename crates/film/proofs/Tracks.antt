@@ -2,14 +2,14 @@
 use mathlib.Core.Path.{_≡_, refl, sym, ap, ap₂, _∙_}
 use mathlib.Core.Bool.{Bool, true, false}
 use mathlib.Core.List.{List, [], _∷_}
-use Prim.Native.Nat.{ℕ, zero, suc, _+_, _-_, _*_, _^_, _≤_, _<_}
+use Prim.Native.Nat.{ℕ, zero, suc, _+_, _-_, _^_, _≤_, _<_}
 use native.Mathlib.Omega.{arith}
 use lib.ListN.{getD}
 use lib.IntN.{ℤ, pos, negsuc, natAbs, _+ℤ_, _-ℤ_}
-use lib.Signed.{mag, ltZ, nonNeg}
+use lib.Signed.{ltZ, nonNeg}
 use lib.Dec.{T, ltb, leb, eqb, eqb→eq, leb→le}
 use borrow.Author.Tests.{ltb-true, ltb-false, lt-ltb, le-ltb, le-leb, lt-leb}
-use mir.Syntax.{w8, w16, w64}
+use mir.Syntax.{w8, w16}
 use mir.Val.{Fits, SFits, ofZ, toZ}
 use mir.ValLaws.{toZ-ofZ, toZ-pos}
 use Rattle.rules.specs.Basic.{pick, every}

@@ -2,35 +2,33 @@
 use mathlib.Core.Path.{_≡_, refl, sym, ap, ap₂, _∙_}
 use mathlib.Core.List.{List, [], _∷_, _++_, append-assoc}
 use mathlib.Core.Option.{none}
-use Prim.Native.Nat.{ℕ, zero, suc, _+_, _-_, _*_, _/_, _%_, _≤_, _<_, min}
+use Prim.Native.Nat.{ℕ, zero, suc, _+_, _-_, _*_, _≤_, _<_, min}
 use native.Mathlib.Nat.{add-zero}
 use native.Mathlib.Numerals.{add-one}
 use native.Mathlib.Omega.{arith}
-use lib.ListN.{length, getD, drop, length-append, length-drop}
+use lib.ListN.{length, drop, length-append, length-drop}
 use Rattle.rules.specs.Row.{Kind, B, M, E}
 use Rattle.rules.specs.Street.{counted}
 use Rattle.rules.specs.Sheet.{kindIn, Entry, entry, upperOf, lowerOf, countOf, entryAt, entriesOf, begun}
-use Rattle.rules.specs.Judgement.{left, judge}
-use Rattle.rules.specs.Film.{axis, upper, heightAt, target, Rec, Wire, Sweep, gap, ran, wall, opened, closed, ending, draw, records}
+use Rattle.rules.specs.Judgement.{left}
+use Rattle.rules.specs.Film.{upper, Rec, Wire, Sweep, gap, ending, draw, records}
 use Rattle.rules.proofs.Fits.{Fits}
-use Rattle.rules.proofs.Legal.{Legal, done, then}
+use Rattle.rules.proofs.Legal.{Legal, then}
 use Rattle.rules.proofs.Levels.{upper-min}
-use Rattle.street.specs.Order.{capacity}
-use Rattle.sheet.specs.Told.{kindAt, aboveAt}
+use Rattle.sheet.specs.Told.{aboveAt}
 use Rattle.sheet.proofs.Heads.{Headed}
-use Rattle.sheet.proofs.Walks.{Faultless, faultless, legal-few}
+use Rattle.sheet.proofs.Walks.{Faultless, legal-few}
 use Rattle.rules.proofs.SheetFields.{length-entriesOf}
 use Rattle.sheet.proofs.Scans.{entries-from, entries-end}
 use Rattle.film.specs.declared.wires.Wires.{Wires}
 use Rattle.film.specs.declared.moves.Pen.{Pen}
 use Rattle.film.specs.declared.moves.Node.{Node}
 use Rattle.film.specs.declared.drawer.Walk.{Walk}
-use Rattle.film.specs.Stamps.{most, laid}
-use Rattle.film.specs.Wires.{columns, listed, Sound, Emptied}
-use Rattle.film.specs.Moves.{aim, Fitting, Swept}
-use Rattle.film.specs.Nodes.{kindOf, standing, own, marks, going, Joinable, Joined}
+use Rattle.film.specs.Stamps.{each, laid}
+use Rattle.film.specs.Wires.{listed, Sound, Emptied}
+use Rattle.film.specs.Moves.{aim, Swept}
+use Rattle.film.specs.Nodes.{kindOf, own, marks, going, Joinable, Joined}
 use Rattle.film.specs.Walks.{pitch, NodeOf, Due, crossing, strokes, Visited, Lain}
-use Rattle.film.proofs.Aims.{counted-le}
 use Rattle.film.proofs.Sweeps.{laid-append, laid-length}
 
 -- ---- one node
@@ -148,7 +146,7 @@ module _ (s film₀ : List ℕ) where
     pub legal : Legal (upperOf s) (lowerOf s) (w .pen .wires .count) (drop i (entriesOf s))
     pub few : 2 * w .begun ≤ i + w .pen .wires .count
     pub column : w .pen .column ≡ suc (pitch * (i - 1))
-    pub room : w .pen .drawn ≤ 26 * i
+    pub room : w .pen .drawn ≤ each * i
     pub count : w .pen .drawn + length (ahead i w) ≡ length (records pitch s)
     pub bytes : laid film (w .pen .drawn) (ahead i w) ≡ laid film₀ 0 (records pitch s)
 

@@ -10,8 +10,8 @@ use Rattle.rules.specs.Sheet.{kindIn}
 use Rattle.rules.specs.Film.{target, bent, drawn, Sweep}
 use Rattle.film.specs.declared.moves.Pen.{Pen}
 use Rattle.film.specs.declared.moves.Node.{Node}
-use Rattle.film.specs.Stamps.{most, laid}
-use Rattle.film.specs.Wires.{columns, listed, wireAt, Sound}
+use Rattle.film.specs.Stamps.{columns, most, laid}
+use Rattle.film.specs.Wires.{listed, wireAt, Sound}
 
 -- the height that the wire with q wires above it has to reach at a node
 abbrev pub aim : Node → ℕ → ℕ

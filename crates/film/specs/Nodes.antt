@@ -11,8 +11,8 @@ use Rattle.rules.specs.Film.{axis, heightAt, Rec, Wire, ran, wall, opened, clos
 use Rattle.street.specs.Order.{capacity}
 use Rattle.film.specs.declared.moves.Pen.{Pen}
 use Rattle.film.specs.declared.moves.Node.{Node}
-use Rattle.film.specs.Stamps.{most, laid}
-use Rattle.film.specs.Wires.{columns, listed, wireAt, Sound, Removed}
+use Rattle.film.specs.Stamps.{columns, most, laid}
+use Rattle.film.specs.Wires.{listed, wireAt, Sound, Removed}
 use Rattle.film.specs.Moves.{Fitting}
 
 abbrev pub kindOf : Node → Kind

@@ -8,7 +8,15 @@ use Rattle.rules.specs.Basic.{pick}
 use Rattle.rules.specs.Bits.{bytes}
 use Rattle.rules.specs.Film.{Rec, recBits}
 
--- more records than a film can have: 512 nodes, each with a stub, a last run and two records for each of twelve moves
+-- the columns that a record's field of 13 bits can hold
+abbrev pub columns : ℕ
+columns = 8192
+
+-- no more records can stand for one node: its stub, its last run, and two for each of twelve moves before it
+abbrev pub each : ℕ
+each = 26
+
+-- more records than 512 nodes can have
 abbrev pub most : ℕ
 most = 16384
 

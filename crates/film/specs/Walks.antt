@@ -12,7 +12,7 @@ use Rattle.rules.specs.Answers.{drawing, FilmAfter}
 use Rattle.street.specs.Order.{capacity}
 use Rattle.film.specs.declared.moves.Node.{Node}
 use Rattle.film.specs.declared.drawer.Walk.{Walk}
-use Rattle.film.specs.Stamps.{most, laid}
+use Rattle.film.specs.Stamps.{each, laid}
 use Rattle.film.specs.Wires.{listed, Sound}
 use Rattle.film.specs.Moves.{aim, Fitting}
 use Rattle.film.specs.Nodes.{kindOf, marks, going}
@@ -35,7 +35,7 @@ pub record Due (w : Walk) (n : Node) (i : ℕ) : Type 0 where
   pub small : begun (kindOf n) (w .begun) ≤ 256
   pub near : i < 512
   pub column : w .pen .column ≡ suc (pitch * (i - 1))
-  pub room : w .pen .drawn ≤ 26 * i
+  pub room : w .pen .drawn ≤ each * i
 
 -- the gap before node i, and all that is drawn for it
 abbrev pub crossing : Walk → Node → ℕ → Sweep
@@ -53,12 +53,12 @@ pub record Visited (w : Walk) (n : Node) (i : ℕ) (film : List ℕ) (r : Walk) 
   pub nets : r .begun ≡ begun (kindOf n) (w .begun)
   pub records : r .pen .drawn ≡ w .pen .drawn + length (strokes w n i)
   pub bytes : after ≡ laid film (w .pen .drawn) (strokes w n i)
-  pub room : r .pen .drawn ≤ 26 * suc i
+  pub room : r .pen .drawn ≤ each * suc i
 
 -- the records of a sheet were laid on a film, as far as it reaches, and counted
 pub record Lain (s film : List ℕ) (r : ℕ) (after : List ℕ) : Type 0 where
   pub count : r ≡ length (records pitch s)
-  pub few : r ≤ 13312
+  pub few : r ≤ each * 512
   pub bytes : after ≡ laid film 0 (records pitch s)
 
 -- the drawer's answer, and every byte of the film's buffer

@@ -6,14 +6,11 @@ use Prim.Native.Nat.{ℕ, _+_, _≤_, _<_}
 use lib.ListN.{length, getD, take, set}
 use lib.IntN.{ℤ, pos}
 use Rattle.rules.specs.Basic.{put, cut}
-use Rattle.rules.specs.Film.{axis, Wire, bent}
+use Rattle.rules.specs.Film.{Wire, bent}
 use Rattle.street.specs.Order.{capacity}
 use Rattle.film.specs.declared.wires.Wires.{Wires}
 use Rattle.film.specs.Heights.{high}
-
--- the columns that a record's field can hold
-abbrev pub columns : ℕ
-columns = 8192
+use Rattle.film.specs.Stamps.{columns}
 
 -- a wire of the code, by its level
 abbrev pub wire : (net : ℕ) (level : ℤ) (start : ℕ) → Wire

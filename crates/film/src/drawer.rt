@@ -11,12 +11,13 @@ use sheet::inspect::Inspected;
 use sheet::inspect::inspect;
 ghost use mathlib.Core.Path.{_≡_};
 ghost use mathlib.Core.Option.{none};
-ghost use Prim.Native.Nat.{_≤_};
+ghost use Prim.Native.Nat.{_*_, _≤_};
 ghost use lib.ListN.{length};
 ghost use Rattle.rules.specs.Sheet.{entryAt};
 ghost use Rattle.rules.specs.Film.{records as recordsOf};
 ghost use Rattle.rules.specs.Judgement.{judge};
 ghost use Rattle.sheet.specs.Told.{aboveAt, InSheet};
+ghost use Rattle.film.specs.Stamps.{each};
 ghost use Rattle.film.specs.Walks.{pitch, NodeOf, Due, Visited, Lain, Drawn};
 
 // The columns from one node to the next.
@@ -55,7 +56,7 @@ fn draw_legal(s: &[u8], film: &mut [u8]) -> Drawing
 // The number of records of a sheet without a fault: they are laid on no film.
 fn count_records(s: &[u8]) -> usize
     requires { ⌜ judge (now s) ≡ none ⌝ }
-    ensures { λ r. ⌜ (r ≡ length (recordsOf pitch (now (s .entry)))) × (r ≤ 13312) ⌝ }
+    ensures { λ r. ⌜ (r ≡ length (recordsOf pitch (now (s .entry)))) × (r ≤ each * 512) ⌝ }
 {
     let mut nothing: [u8; 0] = [];
     lay(s, &mut nothing)

@@ -3,7 +3,8 @@ use street::CAPACITY;
 ghost use Prim.Native.Nat.{_≤_, _<_};
 ghost use Rattle.street.specs.Order.{capacity};
 ghost use Rattle.film.specs.Heights.{Level};
-ghost use Rattle.film.specs.Wires.{columns, wire, Sound, Emptied, Inserted, Removed, Moved};
+ghost use Rattle.film.specs.Stamps.{columns};
+ghost use Rattle.film.specs.Wires.{wire, Sound, Emptied, Inserted, Removed, Moved};
 
 // The open wires from top to bottom, with their count. Cells past the count are free.
 pub struct Wires {

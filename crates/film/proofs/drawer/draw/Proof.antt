@@ -15,7 +15,7 @@ enum-told c = search needs
 
 draw-legal-requires : tie.Need-draw-legal-requires
 draw-legal-requires c κs =
-    none-told (judge (c .before .before .before .before .before .before .args .s .now)) (sym (c .before .before .before .inspect .ensures) ∙ c .before .enum-told .given .1)
+    none-told (judge (c .before .before .before .before .before .before .args .s .now)) (c .before .before .before .inspect .ensures) (c .before .enum-told .given .1)
 
 enum-known-found : tie.Need-enum-known-found
 enum-known-found c = search needs
@@ -29,7 +29,7 @@ returns c = search needs
 returns-2 : tie.Need-returns-2
 returns-2 c =
     let a = c .before .before .before .before .before .before .args in
-    draw-unfit (a .s .now) (a .film .now) (fault-told (judge (a .s .now)) (sym (c .before .before .before .inspect .ensures) ∙ c .before .found .given .1))
+    draw-unfit (a .s .now) (a .film .now) (fault-told (judge (a .s .now)) (c .before .before .before .inspect .ensures) (c .before .found .given .1))
 
 pub draw-spec : {M : Type 1} → statement M
 draw-spec =

@@ -1,13 +1,10 @@
 -- `film::drawer::lay` meets its contract. The loop's invariant: the walk has come to node i, and what is drawn from there on leads to all
 -- records (`Walking`). The measure is the number of nodes left. Assumes nothing.
-use mathlib.Core.Path.{_≡_, sym, ap, _∙_}
-use Prim.Native.Nat.{ℕ, _-_, _≤_, _<_}
+use Prim.Native.Nat.{_-_}
 use native.Mathlib.Omega.{arith}
 use borrow.Author.Needs.{needs}
-use Rattle.rules.specs.Sheet.{upperOf, countOf}
 use Rattle.sheet.proofs.Heads.{got-upper, got-count, in-sheet}
 use Rattle.sheet.proofs.Walks.{faultless}
-use Rattle.film.specs.Walks.{NodeOf}
 use Rattle.film.proofs.Trips.{Walking, walk-start, walk-above, walk-due, walk-step, walk-kept, walk-end, node-of}
 use Rattle.film.proofs.drawer.lay.Statement.{statement}
 use Rattle.film.proofs.drawer.lay.Tie as tie

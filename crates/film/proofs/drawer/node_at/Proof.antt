@@ -1,9 +1,4 @@
 -- `film::drawer::node_at` meets its contract: both fields are read as one of six bits. Assumes nothing.
-use mathlib.Core.Path.{_≡_, ap}
-use Prim.Native.Nat.{ℕ, _%_, _≤_}
-use native.Mathlib.Omega.{arith}
-use Rattle.rules.specs.Sheet.{entry, entryAt}
-use Rattle.sheet.specs.Told.{aboveAt}
 use Rattle.sheet.proofs.Wires.{got-entry}
 use Rattle.film.proofs.Trips.{above-of}
 use borrow.Author.Needs.{needs}

@@ -1,5 +1,4 @@
 -- `film::levels::upper_wires` meets its contract: `table-upper`, a test of all entries. Assumes nothing.
-use mathlib.Core.Path.{_≡_}
 use native.Mathlib.Omega.{arith}
 use borrow.Author.Needs.{needs}
 use Rattle.film.proofs.Tracks.{table, table-upper, table-small}

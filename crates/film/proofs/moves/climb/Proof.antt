@@ -1,11 +1,7 @@
 -- `film::moves::climb` meets its contract. The loop's invariant: what is left of the climb leads to the whole (`Climbing`). The measure is
 -- the number of wires left. Assumes nothing.
-use mathlib.Core.Path.{_≡_, refl, sym, ap, _∙_}
-use Prim.Native.Nat.{suc, _-_, _*_}
+use Prim.Native.Nat.{_-_}
 use native.Mathlib.Omega.{arith}
-use lib.ListN.{length, drop}
-use Rattle.rules.specs.Film.{climb}
-use Rattle.film.specs.Wires.{listed}
 use Rattle.film.specs.Moves.{aim}
 use Rattle.film.proofs.Aims.{fitting-less}
 use Rattle.film.proofs.Sweeps.{Climbing, climb-start, climb-step, climb-end, climb-kept}

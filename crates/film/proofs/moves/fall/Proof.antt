@@ -1,6 +1,5 @@
 -- `film::moves::fall` meets its contract: the test is on heights, and the step is the one it asks for (`step-as`). Assumes nothing.
-use mathlib.Core.Path.{sym, ap, ap₂, _∙_}
-use native.Mathlib.Omega.{arith}
+use mathlib.Core.Path.{ap₂, _∙_}
 use lib.ListN.{getD}
 use lib.IntN.{pos}
 use lib.Dec.{ltb}

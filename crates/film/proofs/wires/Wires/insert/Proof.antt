@@ -1,6 +1,6 @@
 -- `film::wires::Wires::insert` meets its contract. The loop's invariant: to put what is carried at the place that is reached is to put
 -- the new wire at k (`Carried`). The measure is the number of places left. Assumes nothing.
-use mathlib.Core.Path.{refl, sym, ap, _∙_}
+use mathlib.Core.Path.{refl}
 use Prim.Native.Nat.{_-_}
 use native.Mathlib.Omega.{arith}
 use mir.Syntax.{w8}

@@ -1,11 +1,8 @@
 -- `film::wires::Wires::remove` meets its contract. The loop's invariant: to cut the place that is reached is to cut k (`Closing`). The
 -- measure is the number of places left. Assumes nothing.
-use mathlib.Core.Path.{_≡_, refl, sym, ap, _∙_}
-use mathlib.Core.List.{List}
-use Prim.Native.Nat.{ℕ, suc, _-_, _+_}
+use mathlib.Core.Path.{refl}
+use Prim.Native.Nat.{_-_}
 use native.Mathlib.Omega.{arith}
-use lib.ListN.{take}
-use Rattle.rules.specs.Basic.{cut}
 use Rattle.film.specs.Wires.{joined, cells}
 use Rattle.film.proofs.Cells.{Closing, closing-step, closing-end}
 use Rattle.film.proofs.wires.Wires.remove.Statement.{statement}
