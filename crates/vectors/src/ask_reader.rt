@@ -1,9 +1,9 @@
 // Lines of sheets: `sheet number place row` of the reader, and behind them `number place film` of the drawer.
-use crate::buffers::fill;
 use crate::fields::bytes;
 use crate::told::count;
 use crate::told::is_said;
 use crate::told::is_written;
+use crate::told::prepare;
 use answers::read_said;
 use sheet::agreement::agrees;
 use sheet::reader::read;
@@ -23,7 +23,7 @@ pub fn reader_line(line: &[u8], counts: &mut [u64; 32]) -> bool {
 // accepted sheet and its row, and no of a refused one.
 fn is_read(sheet: &[u8], line: &[u8], counts: &mut [u64; 32]) -> bool {
     let mut row = [0u8; 1024];
-    fill(&mut row);
+    prepare(line, 3, &mut row);
     let said = read_said(read(sheet, &mut row));
     count(counts, said);
     if !is_said(line, 1, said) {

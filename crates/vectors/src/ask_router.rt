@@ -7,6 +7,7 @@ use crate::fields::number;
 use crate::told::count;
 use crate::told::is_said;
 use crate::told::is_written;
+use crate::told::prepare;
 use answers::Said;
 use answers::route_said;
 use router::route;
@@ -38,7 +39,7 @@ fn is_routed(row: &[u8], ku: u8, kl: u8, line: &[u8], counts: &mut [u64; 32]) ->
     let mut work = [0u8; WORK];
     let mut sheet = [0u8; 1024];
     fill(&mut work);
-    fill(&mut sheet);
+    prepare(line, 5, &mut sheet);
     let said = route_said(route(row, ku, kl, &mut work, &mut sheet));
     count(counts, said);
     let zeros = cleared(said, row.len());

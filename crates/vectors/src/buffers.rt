@@ -13,6 +13,18 @@ pub fn fill(buffer: &mut [u8]) {
     }
 }
 
+// Makes the start of a buffer differ from some bytes, each from each.
+pub fn spoil(buffer: &mut [u8], wanted: &[u8]) {
+    if buffer.len() < wanted.len() {
+        return;
+    }
+    let mut i = 0;
+    while i < wanted.len() {
+        buffer[i] = wanted[i] ^ 255;
+        i += 1;
+    }
+}
+
 // Whether a buffer still has the pattern from an index on.
 pub fn is_kept(buffer: &[u8], from: usize) -> bool {
     let mut i = from;

@@ -1,6 +1,8 @@
 // What was answered and written, against a line.
+use crate::buffers::fill;
 use crate::buffers::has;
 use crate::buffers::is_kept;
+use crate::buffers::spoil;
 use crate::fields::bytes;
 use crate::fields::number;
 use answers::Said;
@@ -23,6 +25,15 @@ pub fn is_said(line: &[u8], k: usize, said: Said) -> bool
         return false;
     }
     said.place == number(line, k + 1)
+}
+
+// Fills a buffer with the pattern, and its start with bytes that differ from those of field k, so that each of those must be written.
+pub fn prepare(line: &[u8], k: usize, buffer: &mut [u8]) {
+    fill(buffer);
+    let mut wanted = [0u8; 1024];
+    let given = bytes(line, k, &mut wanted);
+    let n = given.count;
+    spoil(buffer, &wanted[..n]);
 }
 
 // Whether a buffer starts with the bytes of field k, and still has the pattern behind them.
