@@ -6,8 +6,7 @@ use crate::told::count;
 use crate::told::is_said;
 use answers::draw_said;
 use film::drawer::draw;
-ghost use Prim.Native.Nat.{_*_, _≤_, _<_};
-ghost use lib.ListN.{length};
+use std::num::wrapping_add_u64;
 
 // Bytes of a film: more than any sheet of the vectors needs.
 const FILM: usize = 8192;
@@ -47,21 +46,20 @@ fn is_drawn(sheet: &[u8], line: &[u8], counts: &mut [u64; 32]) -> bool {
     has_records(&film, &wanted, n / 5)
 }
 
+// The most records that a film here has.
+const MOST: usize = 1638;
+
 // Whether the first k records of one film are those of another, each once.
 fn has_records(film: &[u8], wanted: &[u8], k: usize) -> bool {
-    if film.len() / 5 < k {
-        return false;
-    }
-    if wanted.len() / 5 < k {
+    if k > MOST {
         return false;
     }
     let mut i = 0;
     while i < k {
-        let at = 5 * i;
-        if copies(film, k, &wanted[at..at + 5]) != 1 {
+        if copies(film, k, wanted, 5 * i) != 1 {
             return false;
         }
-        if copies(wanted, k, &wanted[at..at + 5]) != 1 {
+        if copies(wanted, k, wanted, 5 * i) != 1 {
             return false;
         }
         i += 1;
@@ -69,38 +67,47 @@ fn has_records(film: &[u8], wanted: &[u8], k: usize) -> bool {
     true
 }
 
-// How often a record stands among the first k of a film.
-fn copies(film: &[u8], k: usize, wanted: &[u8]) -> usize
-    requires { ⌜ (5 * k ≤ length (now film)) × (5 ≤ length (now wanted)) ⌝ }
-    ensures { λ r. ⌜ r ≤ k ⌝ }
-{
+// How often the record that starts at `from` stands among the first k of a film; 0 where k is more than a film here has.
+fn copies(film: &[u8], k: usize, wanted: &[u8], from: usize) -> u64 {
+    if k > MOST {
+        return 0;
+    }
     let mut found = 0;
     let mut i = 0;
     while i < k {
-        let at = 5 * i;
-        if is_same(&film[at..at + 5], wanted) {
-            found += 1;
+        if is_same(film, 5 * i, wanted, from) {
+            found = wrapping_add_u64(found, 1);
         }
         i += 1;
     }
     found
 }
 
-// Whether two records are equal.
-fn is_same(a: &[u8], b: &[u8]) -> bool
-    requires { ⌜ (5 ≤ length (now a)) × (5 ≤ length (now b)) ⌝ }
-{
-    if a[0] != b[0] {
+// Whether two records are equal, that of a film from index `at` and that of another from index `from`.
+fn is_same(film: &[u8], at: usize, wanted: &[u8], from: usize) -> bool {
+    if film.len() < 5 {
         return false;
     }
-    if a[1] != b[1] {
+    if film.len() - 5 < at {
         return false;
     }
-    if a[2] != b[2] {
+    if wanted.len() < 5 {
         return false;
     }
-    if a[3] != b[3] {
+    if wanted.len() - 5 < from {
         return false;
     }
-    a[4] == b[4]
+    if film[at] != wanted[from] {
+        return false;
+    }
+    if film[at + 1] != wanted[from + 1] {
+        return false;
+    }
+    if film[at + 2] != wanted[from + 2] {
+        return false;
+    }
+    if film[at + 3] != wanted[from + 3] {
+        return false;
+    }
+    film[at + 4] == wanted[from + 4]
 }

@@ -6,7 +6,7 @@ use Rattle.vectors.proofs.fields.number_of.Statement.{statement}
 use Rattle.vectors.proofs.fields.number_of.Tie as tie
 
 abbrev Inv-loop : tie.InvT-loop
-Inv-loop text value₀ i₀ value i = value ≤ 999
+Inv-loop text value₀ i₀ value i = value ≤ 9999
 
 abbrev μ-loop : tie.MeasureT-loop
 μ-loop text value₀ i₀ value i = length text - i
