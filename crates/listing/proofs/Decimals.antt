@@ -1,4 +1,4 @@
--- What `io` writes of a number is the number in decimal, and a number below 1,000 has at most three digits.
+-- What `io` writes of a number is the number in decimal, and a number below a power of ten has no more digits than its exponent.
 use mathlib.Core.Path.{_≡_, refl, sym, ap, ap₂, _∙_}
 use mathlib.Core.Bool.{Bool, true, false, cond}
 use mathlib.Core.List.{List, [], _∷_, _++_}
@@ -62,6 +62,7 @@ leading-short (suc f) k n h = go (eqb n 0) refl k h (λ j g. leading-short f j (
     go false e (suc k) h r =
         omega (arith, r k (omega (arith, pow-suc 10 k)), length-append rest ((48 + n % 10) ∷ []))
 
-pub decimal-short : (n : ℕ) → n < 1000 → length (decimal n) ≤ 3
+pub decimal-short : (k n : ℕ) → n < 10 ^ suc k → length (decimal n) ≤ suc k
 unfolding decimal
-decimal-short n h = omega (arith, leading-short n 2 (n / 10) (omega arith), length-append (leading n (n / 10)) ((48 + n % 10) ∷ []))
+decimal-short k n h =
+    omega (arith, leading-short n k (n / 10) (omega (arith, pow-suc 10 k)), length-append (leading n (n / 10)) ((48 + n % 10) ∷ []))

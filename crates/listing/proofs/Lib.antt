@@ -3,3 +3,7 @@ pub mod Writing
 pub mod Decimals
 pub mod KindFields
 pub mod Lines
+pub mod FrontFields
+pub mod RoutedText
+pub mod InputText
+pub mod Specimens

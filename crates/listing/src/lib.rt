@@ -66,7 +66,7 @@ fn list_sheet(n: usize, sheet: &[u8], text: &mut [u8]) -> usize
 // `sheet`, n, Ku, Kl.
 fn list_head(n: usize, ku: usize, kl: usize, text: &mut [u8]) -> usize
     requires { ⌜ (n ≤ 512) × (ku < 16) × (kl < 4) × (64 ≤ length (now text)) ⌝ }
-    ensures { λ r. ⌜ Wrote (now (text .entry)) 0 (headLine n ku kl) (now (text .exit)) r × (r ≤ 16) ⌝ }
+    ensures { λ r. ⌜ Wrote (now (text .entry)) 0 (headLine n ku kl) (now (text .exit)) r × (r ≤ 32) ⌝ }
 {
     let a = put_word(text, 0, b"sheet", b' ');
     let b = put_number(text, a, n, b' ');

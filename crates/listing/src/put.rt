@@ -22,7 +22,7 @@ pub fn put_word(text: &mut [u8], at: usize, word: &[u8], end: u8) -> usize
 // Puts a number in decimal and the byte that ends it at a place of the text, and returns the place behind them.
 pub fn put_number(text: &mut [u8], at: usize, n: usize, end: u8) -> usize
     requires { ⌜ at + 20 < length (now text) ⌝ }
-    ensures { λ r. ⌜ Wrote (now (text .entry)) at (closed (decimal n) end) (now (text .exit)) r ⌝ }
+    ensures { λ r. ⌜ Wrote (now (text .entry)) at (closed (decimal n) end) (now (text .exit)) r × (r ≤ at + 21) ⌝ }
 {
     let mut digits = [0u8; 20];
     let k = io::decimal(n as u64, &mut digits);

@@ -1,42 +1,57 @@
+-- `listing::list_refusal` meets its contract: four fields make the line. Assumes nothing.
+use native.Mathlib.Omega.{arith}
 use borrow.Author.Needs.{needs}
+use Rattle.listing.specs.Text.{decimal, refusedWord, atWord, refusedLine}
+use Rattle.listing.proofs.Writing.{wrote-listing}
+use Rattle.listing.proofs.Lines.{word-ends, number-ends, wrote-line}
 use Rattle.listing.proofs.list_refusal.Statement.{statement}
 use Rattle.listing.proofs.list_refusal.Tie as tie
-use Rattle.listing.proofs.list_refusal.Reads as reads
-use Rattle.listing.proofs.list_refusal.Lts as lts
-use Rattle.listing.proofs.put.put_number.Reads as put-number-reads
-use Rattle.listing.proofs.put.put_word.Reads as put-word-reads
 
--- src/lib.rt:82:31
 slice-aggregate-put-word : tie.Need-slice-aggregate-put-word
 slice-aggregate-put-word c = search needs
 
--- src/lib.rt:82:9
 put-word-requires : tie.Need-put-word-requires
 put-word-requires c κs = search needs
 
--- src/lib.rt:83:9
 put-number-requires : tie.Need-put-number-requires
-put-number-requires c κs = ?
+unfolding refusedWord atWord
+put-number-requires c κs = 
+    let w₁ = c .before .before .before .put-word .ensures in
+    omega (arith, word-ends refusedWord 32 w₁, w₁ .kept)
 
--- src/lib.rt:84:31
 slice-aggregate-put-word-2 : tie.Need-slice-aggregate-put-word-2
 slice-aggregate-put-word-2 c = search needs
 
--- src/lib.rt:84:9
 put-word-requires-2 : tie.Need-put-word-requires-2
-put-word-requires-2 c κs = ?
+unfolding refusedWord atWord
+put-word-requires-2 c κs = 
+    let g = c .before .before .before .before .before .before .before .before .before .before .before .before .args in
+    let w₁ = c .before .before .before .before .before .before .before .before .put-word .ensures in
+    let w₂ = c .before .before .before .before .put-number .ensures .0 in
+    omega (arith, word-ends refusedWord 32 w₁, w₁ .kept, number-ends (g .number) 32 (omega arith) w₂, w₂ .kept)
 
--- src/lib.rt:85:5
 put-number-requires-2 : tie.Need-put-number-requires-2
-put-number-requires-2 c κs = ?
+unfolding refusedWord atWord
+put-number-requires-2 c κs = 
+    let g = c .before .before .before .before .before .before .before .before .before .before .before .before .before .before .before .before .args in
+    let w₁ = c .before .before .before .before .before .before .before .before .before .before .before .before .put-word .ensures in
+    let w₂ = c .before .before .before .before .before .before .before .before .put-number .ensures .0 in
+    let w₃ = c .before .before .before .put-word2 .ensures in
+    omega (arith, word-ends refusedWord 32 w₁, w₁ .kept, number-ends (g .number) 32 (omega arith) w₂, w₂ .kept, word-ends atWord 32 w₃, w₃ .kept)
 
--- src/lib.rt:78:1
 same-length : tie.Need-same-length
 same-length c = search needs
 
--- src/lib.rt:78:1
 returns : tie.Need-returns
-returns c = ?
+unfolding refusedWord atWord refusedLine
+returns c = 
+    let g = c .before .before .before .before .before .before .before .before .before .before .before .before .before .before .before .before .before .before .before .args in
+    let w₁ = c .before .before .before .before .before .before .before .before .before .before .before .before .before .before .before .put-word .ensures in
+    let w₂ = c .before .before .before .before .before .before .before .before .before .before .before .put-number .ensures .0 in
+    let w₃ = c .before .before .before .before .before .before .put-word2 .ensures in
+    let w₄ = c .before .before .put-number2 .ensures in
+    wrote-listing (wrote-line refusedWord (decimal (g .number)) atWord (decimal (g .place)) w₁ w₂ w₃ (w₄ .0))
+    (omega (arith, word-ends refusedWord 32 w₁, w₁ .kept, number-ends (g .number) 32 (omega arith) w₂, w₂ .kept, word-ends atWord 32 w₃, w₃ .kept, w₄ .1))
 
 pub list-refusal-spec : {M : Type 1} → statement M
 list-refusal-spec =

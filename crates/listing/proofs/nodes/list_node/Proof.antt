@@ -1,52 +1,62 @@
+-- `listing::nodes::list_node` meets its contract: four fields make the line. Assumes nothing.
+use mathlib.Core.List.{List, [], _∷_}
+use Prim.Native.Nat.{ℕ, _+_}
+use native.Mathlib.Omega.{arith}
 use borrow.Author.Needs.{needs}
+use Rattle.listing.proofs.Lines.{word-ends, number-ends, wrote-node}
 use Rattle.listing.proofs.nodes.list_node.Statement.{statement}
 use Rattle.listing.proofs.nodes.list_node.Tie as tie
-use Rattle.listing.proofs.nodes.list_node.Reads as reads
-use Rattle.listing.proofs.nodes.list_node.Lts as lts
-use Rattle.listing.proofs.nodes.letter_of.Reads as letter-of-reads
-use Rattle.listing.proofs.nodes.open_at.Reads as open-at-reads
-use Rattle.listing.proofs.put.put_number.Reads as put-number-reads
-use Rattle.listing.proofs.put.put_word.Reads as put-word-reads
 
--- src/nodes.rt:39:17
 letter-of-requires : tie.Need-letter-of-requires
 letter-of-requires c κs = search needs
 
--- src/nodes.rt:40:13
 add-p : tie.Need-add-p
 add-p c = search needs
 
--- src/nodes.rt:41:9
 put-number-requires : tie.Need-put-number-requires
 put-number-requires c κs = search needs
 
--- src/nodes.rt:42:31
 slice-aggregate-put-word : tie.Need-slice-aggregate-put-word
 slice-aggregate-put-word c = search needs
 
--- src/nodes.rt:42:9
 put-word-requires : tie.Need-put-word-requires
-put-word-requires c κs = ?
+put-word-requires c κs = 
+    let g = c .before .before .before .before .before .before .before .before .args in
+    let w₁ = c .before .before .before .before .put-number .ensures .0 in
+    omega (arith, number-ends (g .node) 32 (omega arith) w₁, w₁ .kept)
 
--- src/nodes.rt:43:9
 put-number-requires-2 : tie.Need-put-number-requires-2
-put-number-requires-2 c κs = ?
+put-number-requires-2 c κs = 
+    let g = c .before .before .before .before .before .before .before .before .before .before .before .before .args in
+    let w₁ = c .before .before .before .before .before .before .before .before .put-number .ensures .0 in
+    let w₂ = c .before .before .before .put-word .ensures in
+    omega (arith, number-ends (g .node) 32 (omega arith) w₁, w₁ .kept, word-ends (c .before .before .before .before .before .before .before .before .before .before .letter-of .result ∷ []) 32 w₂, w₂ .kept)
 
--- src/nodes.rt:44:25
 open-at-requires : tie.Need-open-at-requires
 open-at-requires c κs = search needs
 
--- src/nodes.rt:44:5
 put-number-requires-3 : tie.Need-put-number-requires-3
-put-number-requires-3 c κs = ?
+put-number-requires-3 c κs = 
+    let g = c .before .before .before .before .before .before .before .before .before .before .before .before .before .before .before .before .before .args in
+    let w₁ = c .before .before .before .before .before .before .before .before .before .before .before .before .before .put-number .ensures .0 in
+    let w₂ = c .before .before .before .before .before .before .before .before .put-word .ensures in
+    let w₃ = c .before .before .before .before .put-number2 .ensures .0 in
+    omega (arith, number-ends (g .node) 32 (omega arith) w₁, w₁ .kept, word-ends (c .before .before .before .before .before .before .before .before .before .before .before .before .before .before .before .letter-of .result ∷ []) 32 w₂, w₂ .kept, number-ends (g .above + 1) 32 (omega arith) w₃, w₃ .kept)
 
--- src/nodes.rt:35:1
 same-length : tie.Need-same-length
 same-length c = search needs
 
--- src/nodes.rt:35:1
 returns : tie.Need-returns
-returns c = ?
+returns c = 
+    let g = c .before .before .before .before .before .before .before .before .before .before .before .before .before .before .before .before .before .before .before .before .args in
+    let l = c .before .before .before .before .before .before .before .before .before .before .before .before .before .before .before .before .before .before .letter-of in
+    let o = c .before .before .before .open-at in
+    let w₁ = c .before .before .before .before .before .before .before .before .before .before .before .before .before .before .before .before .put-number .ensures .0 in
+    let w₂ = c .before .before .before .before .before .before .before .before .before .before .before .put-word .ensures in
+    let w₃ = c .before .before .before .before .before .before .before .put-number2 .ensures .0 in
+    let w₄ = c .before .before .put-number3 .ensures .0 in
+    (wrote-node (g .node) (g .kind) (g .above) (g .nets) (l .result) (o .result) (l .ensures) (o .ensures .0) w₁ w₂ w₃ w₄,
+    omega (arith, number-ends (g .node) 32 (omega arith) w₁, word-ends (l .result ∷ []) 32 w₂, number-ends (g .above + 1) 32 (omega arith) w₃, number-ends (o .result) 10 (omega (arith, o .ensures .1)) w₄))
 
 pub list-node-spec : {M : Type 1} → statement M
 list-node-spec =
