@@ -40,9 +40,9 @@ pub wrote-node : (node k a nets l b : ℕ) → l ≡ letter (kindIn k) → b ≡
 unfolding nodeLine
 wrote-node node k a nets l b el eb {t₀} {t₁} {t₂} {t₃} {t₄} {p₀} {p₁} {p₂} {p₃} {p₄} w₁ w₂ w₃ w₄ =
     let e : line (decimal node) (l ∷ []) (decimal (a + 1)) (decimal b)
-            ≡ line (decimal node) (letter (kindIn k) ∷ []) (decimal (suc a)) (decimal (counted (kindIn k) nets)) =
-        ap₂ (λ (x y : ℕ). line (decimal node) (x ∷ []) (decimal (a + 1)) (decimal y)) el eb
-        ∙ ap (λ (p : ℕ). line (decimal node) (letter (kindIn k) ∷ []) (decimal p) (decimal (counted (kindIn k) nets))) (add-one a) in
+    ≡ line (decimal node) (letter (kindIn k) ∷ []) (decimal (suc a)) (decimal (counted (kindIn k) nets)) =
+    ap₂ (λ (x y : ℕ). line (decimal node) (x ∷ []) (decimal (a + 1)) (decimal y)) el eb
+    ∙ ap (λ (p : ℕ). line (decimal node) (letter (kindIn k) ∷ []) (decimal p) (decimal (counted (kindIn k) nets))) (add-one a) in
     rw e at (wrote-line (decimal node) (l ∷ []) (decimal (a + 1)) (decimal b) w₁ w₂ w₃ w₄)
 
 -- a node's fields lie in the sheet
@@ -101,5 +101,5 @@ module _ (s text : List ℕ) (at : ℕ) where
   unfolding nodeLines
   through-all i nets text′ end e m =
       let all : m .lines ≡ nodeLines 1 0 (entriesOf s) =
-          sym (append-nil (m .lines)) ∙ ap (λ (es : List Entry). m .lines ++ nodeLines (suc i) nets es) (sym (entries-end s i e)) ∙ m .rest in
+      sym (append-nil (m .lines)) ∙ ap (λ (es : List Entry). m .lines ++ nodeLines (suc i) nets es) (sym (entries-end s i e)) ∙ m .rest in
       rw all at (m .wrote)

@@ -89,7 +89,7 @@ module _ (row : List ℕ) (ku kl : ℕ) (work out : List ℕ) where
           let h = checked-fit row ku kl work out (sheet-checked n e) in
           let is : length row ≡ n = cc in
           let l = placed-laid row ku kl ps
-                  (record { bytes-alone = b; least = h .least; most = h .most; whole = h .whole; upper = h .upper; lower = h .lower; placing = f .placing }) in
+          (record { bytes-alone = b; least = h .least; most = h .most; whole = h .whole; upper = h .upper; lower = h .lower; placing = f .placing }) in
           let k : length (entries (nodes row) ps) ≡ n = length-entries ku kl (nodes row) [] ps [] (f .placing) ∙ length-nodes row ∙ is in
           record {
             few = omega (arith, h .most);
@@ -109,7 +109,7 @@ module _ (row : List ℕ) (ku kl : ℕ) (work out : List ℕ) where
     unfolding size
     long n e = omega (arith, sheet-given b n (sym (c .answer) ∙ e) .sized)
 
-    pub routed-listable : Listable r out′
+    routed-listable : Listable r out′
     routed-listable n e =
         let g = sheet-given b n (sym (c .answer) ∙ e) in
         let t : List ℕ = drop (length S) out in
@@ -137,11 +137,19 @@ module _ (row : List ℕ) (ku kl : ℕ) (work out : List ℕ) where
     same-answer w o =
         c .answer
         ∙ ap₂ (λ (k l : ℕ). settle (refusal (length row) (firstLone row) ku kl k l) (outcome ku kl (nodes row) (first ku kl (nodes row))))
-        (w ∙ sym (length-replicate 46080 0)) (o ∙ sym (length-replicate 386 0))
+        (w ∙ sym (length-replicate {A = ℕ} 46080 0)) (o ∙ sym (length-replicate {A = ℕ} 386 0))
 
-    pub routed-text : length work ≡ 46080 → length out ≡ 386 → listed r out′ ≡ rowText row ku kl
+    routed-text : length work ≡ 46080 → length out ≡ 386 → listed r out′ ≡ rowText row ku kl
     unfolding rowText
     routed-text w o = same-text r refl ∙ ap (λ (q : Routing). listed q S) (same-answer w o)
 
 pub text-listing : {new new′ text text′ : List ℕ} {end : ℕ} → new ≡ new′ → Listing new text text′ end → Listing new′ text text′ end
 text-listing e l = rw e at l
+
+module _ {row : List ℕ} {ku kl : ℕ} {work out : List ℕ} {r : Routing} {work′ out′ : List ℕ} (b : Below 256 row) (c : Routed row ku kl work out r work′ out′) where
+  pub listable : Listable r out′
+  listable = routed-listable row ku kl work out b r work′ out′ c
+
+  pub routed-listing : length work ≡ 46080 → length out ≡ 386 → {text text′ : List ℕ} {end : ℕ} → Listing (listed r out′) text text′ end
+      → Listing (rowText row ku kl) text text′ end
+  routed-listing w o = text-listing (routed-text row ku kl work out b r work′ out′ c w o)

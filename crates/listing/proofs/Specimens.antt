@@ -12,17 +12,17 @@ use Rattle.rules.specs.Judgement.{left}
 use Rattle.rules.specs.Answers.{routeSaid}
 use Rattle.listing.specs.Text.{leading, decimal, closed, line, sheetWord, refusedWord, atWord, letter, headLine, nodeLine, openAfter, nodeLines, refusedLine, listed}
 
-same : List ℕ → List ℕ → Bool
+unfoldable pub same : List ℕ → List ℕ → Bool
 same [] [] = true
 same [] (y ∷ ys) = false
 same (x ∷ xs) [] = false
 same (x ∷ xs) (y ∷ ys) = eqb x y && same xs ys
 
 -- the sheet of abcbac under 2/1, and its text
-example : List ℕ
+unfoldable pub example : List ℕ
 example = 0x24 ∷ 0x06 ∷ 0x00 ∷ 0x10 ∷ 0x62 ∷ 0x82 ∷ 0x00 ∷ []
 
-exampleText : List ℕ
+unfoldable pub exampleText : List ℕ
 exampleText =
     115 ∷ 104 ∷ 101 ∷ 101 ∷ 116 ∷ 32 ∷ 54 ∷ 32 ∷ 50 ∷ 32 ∷ 49 ∷ 10
     ∷ 49 ∷ 32 ∷ 66 ∷ 32 ∷ 49 ∷ 32 ∷ 49 ∷ 10
@@ -33,10 +33,10 @@ exampleText =
     ∷ 54 ∷ 32 ∷ 69 ∷ 32 ∷ 49 ∷ 32 ∷ 49 ∷ 10 ∷ []
 
 -- `refused 1 at 0` and `refused 6 at 105`
-rowLengthText : List ℕ
+unfoldable pub rowLengthText : List ℕ
 rowLengthText = 114 ∷ 101 ∷ 102 ∷ 117 ∷ 115 ∷ 101 ∷ 100 ∷ 32 ∷ 49 ∷ 32 ∷ 97 ∷ 116 ∷ 32 ∷ 48 ∷ 10 ∷ []
 
-stuckText : List ℕ
+unfoldable pub stuckText : List ℕ
 stuckText = 114 ∷ 101 ∷ 102 ∷ 117 ∷ 115 ∷ 101 ∷ 100 ∷ 32 ∷ 54 ∷ 32 ∷ 97 ∷ 116 ∷ 32 ∷ 49 ∷ 48 ∷ 53 ∷ 10 ∷ []
 
 pub specimens-hold : T (same (listed (Routing.Sheet 6) example) exampleText

@@ -45,7 +45,7 @@ word-more : (text : List ℕ) (at : ℕ) (word text′ : List ℕ) (i : ℕ) →
 word-more text at word text′ i h e =
     let n : at + length (take i word) ≡ at + i = ap (λ (k : ℕ). at + k) (length-take-le i word (omega arith)) in
     let here : sets text at (take i word ++ (getD word i 0 ∷ [])) ≡ set (sets text at (take i word)) (at + length (take i word)) (getD word i 0) =
-        sets-append (take i word) (getD word i 0 ∷ []) text at in
+    sets-append (take i word) (getD word i 0 ∷ []) text at in
     ap (λ (t : List ℕ). set t (at + i) (getD word i 0)) e
     ∙ ap (λ (k : ℕ). set (sets text at (take i word)) k (getD word i 0)) (sym n)
     ∙ sym here
@@ -69,7 +69,7 @@ word-closed text at word text′ i end h e =
     let all : take i word ≡ word = take-all i word (omega arith) in
     let here : sets text at (word ++ (end ∷ [])) ≡ set (sets text at word) (at + length word) end = sets-append word (end ∷ []) text at in
     let is : set text′ (at + i) end ≡ sets text at (word ++ (end ∷ [])) =
-        ap₂ (λ (t : List ℕ) (k : ℕ). set t (at + k) end) (e ∙ ap (sets text at) all) h ∙ sym here in
+    ap₂ (λ (t : List ℕ) (k : ℕ). set t (at + k) end) (e ∙ ap (sets text at) all) h ∙ sym here in
     record {
       is = is;
       kept = ap length is ∙ length-sets text at (word ++ (end ∷ []));

@@ -1,7 +1,7 @@
 // The lines of a sheet's nodes.
-use bits::get_bits;
 use crate::put::put_number;
 use crate::put::put_word;
+use bits::get_bits;
 ghost use mathlib.Core.Path.{_≡_};
 ghost use Prim.Native.Nat.{_+_, _*_, _-_, _≤_, _<_};
 ghost use lib.ListN.{length};

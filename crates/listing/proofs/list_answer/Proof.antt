@@ -12,7 +12,7 @@ enum-known-answer : tie.Need-enum-known-answer
 enum-known-answer c = search needs
 
 list-sheet-requires : tie.Need-list-sheet-requires
-list-sheet-requires c κs = 
+list-sheet-requires c κs =
     let s = c .before .before .before .before .before .before in
     let g = c .before .before .answer .given in
     (s .pre .0 (g .0 .0) (g .1), search needs)
@@ -57,7 +57,7 @@ same-length : tie.Need-same-length
 same-length c = search needs
 
 returns : tie.Need-returns
-returns c = 
+returns c =
     let s = c .before .before .before .before .before .before .before .before .before in
     let g = c .before .before .before .before .before .answer .given in
     answer-listing (s .args .answer) (Sheet (g .0 .0)) (s .args .sheet .now) (g .1) (c .before .before .list-sheet .ensures)
@@ -67,7 +67,7 @@ same-length-2 c = search needs
 
 returns-2 : tie.Need-returns-2
 unfolding listed routeSaid
-returns-2 c = 
+returns-2 c =
     let s = c .before .before .before .before .before .before .before .before in
     let g = c .before .before .before .before .enum-told .given in
     answer-listing (s .args .answer) RowLength (s .args .sheet .now) (g .1) (c .before .before .list-refusal .ensures)
@@ -77,7 +77,7 @@ same-length-3 c = search needs
 
 returns-3 : tie.Need-returns-3
 unfolding listed routeSaid
-returns-3 c = 
+returns-3 c =
     let s = c .before .before .before .before .before .before .before .before in
     let g = c .before .before .before .before .enum-told2 .given in
     answer-listing (s .args .answer) Tracks (s .args .sheet .now) (g .1) (c .before .before .list-refusal2 .ensures)
@@ -87,7 +87,7 @@ same-length-4 c = search needs
 
 returns-4 : tie.Need-returns-4
 unfolding listed routeSaid
-returns-4 c = 
+returns-4 c =
     let s = c .before .before .before .before .before .before .before .before .before in
     let g = c .before .before .before .before .before .answer2 .given in
     answer-listing (s .args .answer) (Lone (g .0 .0)) (s .args .sheet .now) (g .1) (c .before .before .list-refusal3 .ensures)
@@ -97,7 +97,7 @@ same-length-5 c = search needs
 
 returns-5 : tie.Need-returns-5
 unfolding listed routeSaid
-returns-5 c = 
+returns-5 c =
     let s = c .before .before .before .before .before .before .before .before in
     let g = c .before .before .before .before .enum-told3 .given in
     answer-listing (s .args .answer) WorkShort (s .args .sheet .now) (g .1) (c .before .before .list-refusal4 .ensures)
@@ -107,7 +107,7 @@ same-length-6 c = search needs
 
 returns-6 : tie.Need-returns-6
 unfolding listed routeSaid
-returns-6 c = 
+returns-6 c =
     let s = c .before .before .before .before .before .before .before .before in
     let g = c .before .before .before .before .enum-told4 .given in
     answer-listing (s .args .answer) SheetShort (s .args .sheet .now) (g .1) (c .before .before .list-refusal5 .ensures)
@@ -117,7 +117,7 @@ same-length-7 c = search needs
 
 returns-7 : tie.Need-returns-7
 unfolding listed routeSaid
-returns-7 c = 
+returns-7 c =
     let s = c .before .before .before .before .before .before .before .before .before in
     let g = c .before .before .before .before .before .answer3 .given in
     answer-listing (s .args .answer) (Stuck (g .0 .0)) (s .args .sheet .now) (g .1) (c .before .before .list-refusal6 .ensures)

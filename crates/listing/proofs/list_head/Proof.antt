@@ -14,13 +14,13 @@ put-word-requires c κs = search needs
 
 put-number-requires : tie.Need-put-number-requires
 unfolding sheetWord
-put-number-requires c κs = 
+put-number-requires c κs =
     let w₁ = c .before .before .before .put-word .ensures in
     omega (arith, word-ends sheetWord 32 w₁, w₁ .kept)
 
 put-number-requires-2 : tie.Need-put-number-requires-2
 unfolding sheetWord
-put-number-requires-2 c κs = 
+put-number-requires-2 c κs =
     let g = c .before .before .before .before .before .before .before .before .before .before .before .args in
     let w₁ = c .before .before .before .before .before .before .before .put-word .ensures in
     let w₂ = c .before .before .before .put-number .ensures .0 in
@@ -28,7 +28,7 @@ put-number-requires-2 c κs =
 
 put-number-requires-3 : tie.Need-put-number-requires-3
 unfolding sheetWord
-put-number-requires-3 c κs = 
+put-number-requires-3 c κs =
     let g = c .before .before .before .before .before .before .before .before .before .before .before .before .before .before .before .args in
     let w₁ = c .before .before .before .before .before .before .before .before .before .before .before .put-word .ensures in
     let w₂ = c .before .before .before .before .before .before .before .put-number .ensures .0 in
@@ -40,14 +40,15 @@ same-length c = search needs
 
 returns : tie.Need-returns
 unfolding sheetWord headLine
-returns c = 
+returns c =
     let g = c .before .before .before .before .before .before .before .before .before .before .before .before .before .before .before .before .before .before .args in
     let w₁ = c .before .before .before .before .before .before .before .before .before .before .before .before .before .before .put-word .ensures in
     let w₂ = c .before .before .before .before .before .before .before .before .before .before .put-number .ensures .0 in
     let w₃ = c .before .before .before .before .before .before .put-number2 .ensures .0 in
-    let w₄ = c .before .before .put-number3 .ensures .0 in
-    (wrote-line sheetWord (decimal (g .n)) (decimal (g .ku)) (decimal (g .kl)) w₁ w₂ w₃ w₄,
-    omega (arith, word-ends sheetWord 32 w₁, number-ends (g .n) 32 (omega arith) w₂, number-ends (g .ku) 32 (omega arith) w₃, number-ends (g .kl) 10 (omega arith) w₄))
+    let w₄ = c .before .before .put-number3 .ensures .0 in (
+      wrote-line sheetWord (decimal (g .n)) (decimal (g .ku)) (decimal (g .kl)) w₁ w₂ w₃ w₄,
+      omega (arith, word-ends sheetWord 32 w₁, number-ends (g .n) 32 (omega arith) w₂, number-ends (g .ku) 32 (omega arith) w₃, number-ends (g .kl) 10 (omega arith) w₄),
+    )
 
 pub list-head-spec : {M : Type 1} → statement M
 list-head-spec =

@@ -15,7 +15,7 @@ put-word-requires c κs = search needs
 
 put-number-requires : tie.Need-put-number-requires
 unfolding refusedWord atWord
-put-number-requires c κs = 
+put-number-requires c κs =
     let w₁ = c .before .before .before .put-word .ensures in
     omega (arith, word-ends refusedWord 32 w₁, w₁ .kept)
 
@@ -24,7 +24,7 @@ slice-aggregate-put-word-2 c = search needs
 
 put-word-requires-2 : tie.Need-put-word-requires-2
 unfolding refusedWord atWord
-put-word-requires-2 c κs = 
+put-word-requires-2 c κs =
     let g = c .before .before .before .before .before .before .before .before .before .before .before .before .args in
     let w₁ = c .before .before .before .before .before .before .before .before .put-word .ensures in
     let w₂ = c .before .before .before .before .put-number .ensures .0 in
@@ -32,7 +32,7 @@ put-word-requires-2 c κs =
 
 put-number-requires-2 : tie.Need-put-number-requires-2
 unfolding refusedWord atWord
-put-number-requires-2 c κs = 
+put-number-requires-2 c κs =
     let g = c .before .before .before .before .before .before .before .before .before .before .before .before .before .before .before .before .args in
     let w₁ = c .before .before .before .before .before .before .before .before .before .before .before .before .put-word .ensures in
     let w₂ = c .before .before .before .before .before .before .before .before .put-number .ensures .0 in
@@ -44,7 +44,7 @@ same-length c = search needs
 
 returns : tie.Need-returns
 unfolding refusedWord atWord refusedLine
-returns c = 
+returns c =
     let g = c .before .before .before .before .before .before .before .before .before .before .before .before .before .before .before .before .before .before .before .args in
     let w₁ = c .before .before .before .before .before .before .before .before .before .before .before .before .before .before .before .put-word .ensures in
     let w₂ = c .before .before .before .before .before .before .before .before .before .before .before .put-number .ensures .0 in

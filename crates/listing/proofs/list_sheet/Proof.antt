@@ -27,7 +27,7 @@ same-length : tie.Need-same-length
 same-length c = search needs
 
 returns : tie.Need-returns
-returns c = 
+returns c =
     let s = c .before .before .before .before .before .before .before .before .before .before .before .before in
     let ku = c .before .before .before .before .before .before .before .before .before .get-bits in
     let kl = c .before .before .before .before .before .before .before .before .get-bits2 in

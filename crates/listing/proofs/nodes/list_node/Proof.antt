@@ -20,13 +20,13 @@ slice-aggregate-put-word : tie.Need-slice-aggregate-put-word
 slice-aggregate-put-word c = search needs
 
 put-word-requires : tie.Need-put-word-requires
-put-word-requires c κs = 
+put-word-requires c κs =
     let g = c .before .before .before .before .before .before .before .before .args in
     let w₁ = c .before .before .before .before .put-number .ensures .0 in
     omega (arith, number-ends (g .node) 32 (omega arith) w₁, w₁ .kept)
 
 put-number-requires-2 : tie.Need-put-number-requires-2
-put-number-requires-2 c κs = 
+put-number-requires-2 c κs =
     let g = c .before .before .before .before .before .before .before .before .before .before .before .before .args in
     let w₁ = c .before .before .before .before .before .before .before .before .put-number .ensures .0 in
     let w₂ = c .before .before .before .put-word .ensures in
@@ -36,7 +36,7 @@ open-at-requires : tie.Need-open-at-requires
 open-at-requires c κs = search needs
 
 put-number-requires-3 : tie.Need-put-number-requires-3
-put-number-requires-3 c κs = 
+put-number-requires-3 c κs =
     let g = c .before .before .before .before .before .before .before .before .before .before .before .before .before .before .before .before .before .args in
     let w₁ = c .before .before .before .before .before .before .before .before .before .before .before .before .before .put-number .ensures .0 in
     let w₂ = c .before .before .before .before .before .before .before .before .put-word .ensures in
@@ -47,16 +47,17 @@ same-length : tie.Need-same-length
 same-length c = search needs
 
 returns : tie.Need-returns
-returns c = 
+returns c =
     let g = c .before .before .before .before .before .before .before .before .before .before .before .before .before .before .before .before .before .before .before .before .args in
     let l = c .before .before .before .before .before .before .before .before .before .before .before .before .before .before .before .before .before .before .letter-of in
     let o = c .before .before .before .open-at in
     let w₁ = c .before .before .before .before .before .before .before .before .before .before .before .before .before .before .before .before .put-number .ensures .0 in
     let w₂ = c .before .before .before .before .before .before .before .before .before .before .before .put-word .ensures in
     let w₃ = c .before .before .before .before .before .before .before .put-number2 .ensures .0 in
-    let w₄ = c .before .before .put-number3 .ensures .0 in
-    (wrote-node (g .node) (g .kind) (g .above) (g .nets) (l .result) (o .result) (l .ensures) (o .ensures .0) w₁ w₂ w₃ w₄,
-    omega (arith, number-ends (g .node) 32 (omega arith) w₁, word-ends (l .result ∷ []) 32 w₂, number-ends (g .above + 1) 32 (omega arith) w₃, number-ends (o .result) 10 (omega (arith, o .ensures .1)) w₄))
+    let w₄ = c .before .before .put-number3 .ensures .0 in (
+      wrote-node (g .node) (g .kind) (g .above) (g .nets) (l .result) (o .result) (l .ensures) (o .ensures .0) w₁ w₂ w₃ w₄,
+      omega (arith, number-ends (g .node) 32 (omega arith) w₁, word-ends (l .result ∷ []) 32 w₂, number-ends (g .above + 1) 32 (omega arith) w₃, number-ends (o .result) 10 (omega (arith, o .ensures .1)) w₄),
+    )
 
 pub list-node-spec : {M : Type 1} → statement M
 list-node-spec =

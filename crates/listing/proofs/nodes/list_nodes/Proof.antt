@@ -38,7 +38,7 @@ add-list-node : tie.Need-add-list-node Inv-loop μ-loop
 add-list-node c = search needs
 
 list-node-requires : tie.Need-list-node-requires Inv-loop μ-loop
-list-node-requires c κs = 
+list-node-requires c κs =
     let s = c .before .before .before .before .before .before .before in
     let m = c .before .before .before .before .loop .inv in
     (omega (arith, s .pre .0 .few), omega (arith, c .before .get-bits2 .ensures .low), omega (arith, s .pre .0 .few, m .few), omega (arith, s .pre .0 .few, m .room, m .wrote .kept))
@@ -54,7 +54,7 @@ loop-less c = search needs
 
 loop-again : tie.Need-loop-again Inv-loop μ-loop
 unfolding openAfter
-loop-again c = 
+loop-again c =
     let s = c .before .before .before .before .before .before .before .before .before .before .before in
     let l = c .before .before .before .before .before .before .before .before .loop in
     let k = c .before .before .before .before .before .before .get-bits in
@@ -67,7 +67,7 @@ same-length : tie.Need-same-length Inv-loop μ-loop
 same-length c = c .before .loop .inv .wrote .kept
 
 returns : tie.Need-returns Inv-loop μ-loop
-returns c = 
+returns c =
     let s = c .before .before .before .before in
     let l = c .before .loop in
     (through-all (s .args .sheet .now) (s .args .text .now) (s .args .at) (l .i) (l .nets) (l .text) (l .end) (omega (arith, s .pre .0 .count, l .inv .within)) (l .inv), omega (arith, l .inv .room, l .inv .within, s .pre .0 .count, s .pre .0 .few))
