@@ -7,6 +7,7 @@ use native.Mathlib.Numerals.{add-one}
 use native.Mathlib.Omega.{arith}
 use lib.ListN.{length, getD, set, take, drop, length-append, length-set}
 use lib.Seq.{sets, length-sets, sets-eq, take-suc, take-all, length-take-le}
+use Rattle.io.specs.Counts.{Counts}
 use Rattle.rules.specs.Answers.{written}
 use Rattle.listing.specs.Text.{closed}
 use Rattle.listing.specs.Wrote.{Wrote, Listing}
@@ -83,5 +84,9 @@ wrote-listing {new} {text} {text′} {end} w h =
     record {
       is = w .is ∙ sets-eq new text 0 (omega (arith, w .ends)) ∙ ap (λ (k : ℕ). new ++ drop k text) (zero-add (length new));
       ends = w .ends ∙ zero-add (length new);
-      within = h;
+      within = omega (arith, w .kept);
     }
+
+-- the length that is returned counts bytes of the buffer
+pub listing-counts : {new text text′ : List ℕ} {end : ℕ} → Listing new text text′ end → Counts end text′
+listing-counts {text′ = text′} {end = end} l = (l .within, sym (length-take-le end text′ (l .within)))

@@ -28,4 +28,4 @@ Listable r s = (n : ℕ) → r ≡ Routing.Sheet n → Readable s n
 pub record Listing (new text text′ : List ℕ) (end : ℕ) : Type 0 where
   pub is : text′ ≡ written new text
   pub ends : end ≡ length new
-  pub within : end ≤ length text
+  pub within : end ≤ length text′

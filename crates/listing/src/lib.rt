@@ -9,6 +9,7 @@ use rules::Routing;
 ghost use mathlib.Core.Path.{_≡_};
 ghost use Prim.Native.Nat.{_≤_, _<_};
 ghost use lib.ListN.{length};
+ghost use Rattle.io.specs.Counts.{Counts};
 ghost use Rattle.rules.specs.Answers.{says};
 ghost use Rattle.listing.specs.Text.{headLine, refusedLine, listed, rowText, inputText};
 ghost use Rattle.listing.specs.Wrote.{Wrote, Readable, Listable, Listing};
@@ -16,6 +17,7 @@ ghost use Rattle.listing.specs.Wrote.{Wrote, Readable, Listable, Listing
 // The text for an input: byte Ku, byte Kl, then the row. It stands at the start of its buffer; its length is returned.
 pub fn list_row(input: &[u8], text: &mut [u8; 8256]) -> usize
     ensures { λ r. ⌜ Listing (inputText (now (input .entry))) (now (text .entry)) (now (text .exit)) r ⌝ }
+    ensures { λ r. ⌜ Counts r (now (text .exit)) ⌝ }
 {
     if input.len() < 2 {
         return route_and_list(&input[..0], 0, 0, text);

@@ -1,6 +1,7 @@
 -- `listing::list_row` meets its contract: the row and its track counts are those of the input. Assumes nothing.
 use native.Mathlib.Omega.{arith}
 use borrow.Author.Needs.{needs}
+use Rattle.listing.proofs.Writing.{listing-counts}
 use Rattle.listing.proofs.RoutedText.{text-listing}
 use Rattle.listing.proofs.InputText.{short-input, long-input}
 use Rattle.listing.proofs.list_row.Statement.{statement}
@@ -13,7 +14,7 @@ route-and-list-requires : tie.Need-route-and-list-requires
 route-and-list-requires c κs = search needs
 
 returns : tie.Need-returns
-returns c = let g = c .before .before .before .before .before .args in text-listing (short-input (g .input .now) (omega arith)) (c .route-and-list .ensures)
+returns c = let g = c .before .before .before .before .before .args in (text-listing (short-input (g .input .now) (omega arith)) (c .route-and-list .ensures), listing-counts (c .route-and-list .ensures))
 
 sub-route-and-list : tie.Need-sub-route-and-list
 sub-route-and-list c = search needs
@@ -34,7 +35,7 @@ route-and-list-requires-2 : tie.Need-route-and-list-requires-2
 route-and-list-requires-2 c κs = search needs
 
 returns-2 : tie.Need-returns-2
-returns-2 c = let g = c .before .before .before .before .before .before .before .args in text-listing (long-input (g .input .now) (omega arith)) (c .route-and-list2 .ensures)
+returns-2 c = let g = c .before .before .before .before .before .before .before .args in (text-listing (long-input (g .input .now) (omega arith)) (c .route-and-list2 .ensures), listing-counts (c .route-and-list2 .ensures))
 
 pub list-row-spec : {M : Type 1} → statement M
 list-row-spec =
