@@ -1,0 +1,105 @@
+-- Fields that are put one after the other make a line, and lines that are put node by node make those of the sheet.
+use mathlib.Core.Path.{_≡_, refl, sym, ap, ap₂, _∙_}
+use mathlib.Core.List.{List, [], _∷_, _++_, append-assoc, append-nil}
+use Prim.Native.Nat.{ℕ, zero, suc, _+_, _*_, _≤_, _<_}
+use native.Mathlib.Numerals.{add-one}
+use native.Mathlib.Omega.{arith}
+use lib.ListN.{length, drop, length-append}
+use Rattle.rules.specs.Street.{counted}
+use Rattle.rules.specs.Sheet.{kindIn, size, Entry, entry, countOf, entryAt, entriesOf}
+use Rattle.bits.specs.Access.{Inside, Got}
+use Rattle.sheet.proofs.Scans.{entries-from, entries-end}
+use Rattle.listing.specs.Text.{decimal, closed, line, letter, nodeLine, openAfter, nodeLines}
+use Rattle.listing.specs.Wrote.{Wrote, Readable}
+use Rattle.listing.proofs.Writing.{wrote-none, wrote-more}
+use Rattle.listing.proofs.Decimals.{decimal-short}
+
+-- the same word put
+pub same-word : (byte : ℕ) {word word′ text text′ : List ℕ} {at end : ℕ} → word ≡ word′ → Wrote text at (closed word byte) text′ end
+    → Wrote text at (closed word′ byte) text′ end
+same-word byte e w = rw e at w
+
+-- where a field ends
+pub word-ends : (word : List ℕ) (byte : ℕ) {text text′ : List ℕ} {at end : ℕ} → Wrote text at (closed word byte) text′ end → end ≡ at + length word + 1
+unfolding closed
+word-ends word byte w = omega (arith, w .ends, length-append word (byte ∷ []))
+
+pub number-ends : (n byte : ℕ) {text text′ : List ℕ} {at end : ℕ} → n < 1000 → Wrote text at (closed (decimal n) byte) text′ end → end ≤ at + 4
+number-ends n byte h w = omega (arith, word-ends (decimal n) byte w, decimal-short 2 n h)
+
+-- four fields make a line
+pub wrote-line : (a b c d : List ℕ) {t₀ t₁ t₂ t₃ t₄ : List ℕ} {p₀ p₁ p₂ p₃ p₄ : ℕ} → Wrote t₀ p₀ (closed a 32) t₁ p₁ → Wrote t₁ p₁ (closed b 32) t₂ p₂
+    → Wrote t₂ p₂ (closed c 32) t₃ p₃ → Wrote t₃ p₃ (closed d 10) t₄ p₄ → Wrote t₀ p₀ (line a b c d) t₄ p₄
+unfolding line
+wrote-line a b c d w₁ w₂ w₃ w₄ = wrote-more w₁ (wrote-more w₂ (wrote-more w₃ w₄))
+
+-- the fields of a node's line
+pub wrote-node : (node k a nets l b : ℕ) → l ≡ letter (kindIn k) → b ≡ counted (kindIn k) nets → {t₀ t₁ t₂ t₃ t₄ : List ℕ} {p₀ p₁ p₂ p₃ p₄ : ℕ}
+    → Wrote t₀ p₀ (closed (decimal node) 32) t₁ p₁ → Wrote t₁ p₁ (closed (l ∷ []) 32) t₂ p₂ → Wrote t₂ p₂ (closed (decimal (a + 1)) 32) t₃ p₃
+    → Wrote t₃ p₃ (closed (decimal b) 10) t₄ p₄ → Wrote t₀ p₀ (nodeLine node nets (entry k a)) t₄ p₄
+unfolding nodeLine
+wrote-node node k a nets l b el eb {t₀} {t₁} {t₂} {t₃} {t₄} {p₀} {p₁} {p₂} {p₃} {p₄} w₁ w₂ w₃ w₄ =
+    let e : line (decimal node) (l ∷ []) (decimal (a + 1)) (decimal b)
+    ≡ line (decimal node) (letter (kindIn k) ∷ []) (decimal (suc a)) (decimal (counted (kindIn k) nets)) =
+    ap₂ (λ (x y : ℕ). line (decimal node) (x ∷ []) (decimal (a + 1)) (decimal y)) el eb
+    ∙ ap (λ (p : ℕ). line (decimal node) (letter (kindIn k) ∷ []) (decimal p) (decimal (counted (kindIn k) nets))) (add-one a) in
+    rw e at (wrote-line (decimal node) (l ∷ []) (decimal (a + 1)) (decimal b) w₁ w₂ w₃ w₄)
+
+-- a node's fields lie in the sheet
+pub kind-inside : (s : List ℕ) (n i : ℕ) → Readable s n → i < n → Inside s (16 + 6 * i) 2
+unfolding size
+kind-inside s n i r h = record { small = omega arith; within = omega (arith, r .whole) }
+
+pub place-inside : (s : List ℕ) (n i : ℕ) → Readable s n → i < n → Inside s (18 + 6 * i) 4
+unfolding size
+place-inside s n i r h = record { small = omega arith; within = omega (arith, r .whole) }
+
+-- the lines of the first i nodes are put, after which so many nets are open
+pub record Through (s text : List ℕ) (at i nets : ℕ) (text′ : List ℕ) (end : ℕ) : Type 0 where
+  pub within : i ≤ countOf s
+  pub few : nets ≤ i
+  pub room : end ≤ at + 16 * i
+  pub lines : List ℕ
+  pub wrote : Wrote text at lines text′ end
+  pub rest : lines ++ nodeLines (suc i) nets (drop i (entriesOf s)) ≡ nodeLines 1 0 (entriesOf s)
+
+module _ (s text : List ℕ) (at : ℕ) where
+  pub through-none : Through s text at 0 0 text at
+  through-none = record { within = omega arith; few = omega arith; room = omega arith; lines = []; wrote = wrote-none text at; rest = refl }
+
+  module _ (i nets : ℕ) (text′ : List ℕ) (end : ℕ) (h : i < countOf s) (m : Through s text at i nets text′ end) where
+    node-rest : (k a : ℕ) → entryAt s i ≡ entry k a
+        → (m .lines ++ nodeLine (i + 1) nets (entry k a)) ++ nodeLines (suc (i + 1)) (openAfter nets (entry k a)) (drop (i + 1) (entriesOf s))
+        ≡ nodeLines 1 0 (entriesOf s)
+    unfolding nodeLines
+    node-rest k a e =
+        append-assoc (m .lines) (nodeLine (i + 1) nets (entry k a)) (nodeLines (suc (i + 1)) (openAfter nets (entry k a)) (drop (i + 1) (entriesOf s)))
+        ∙ ap (λ (j : ℕ). m .lines ++ (nodeLine j nets (entry k a) ++ nodeLines (suc j) (openAfter nets (entry k a)) (drop j (entriesOf s)))) (add-one i)
+        ∙ ap (λ (x : Entry). m .lines ++ (nodeLine (suc i) nets x ++ nodeLines (suc (suc i)) (openAfter nets x) (drop (suc i) (entriesOf s)))) (sym e)
+        ∙ ap (λ (es : List Entry). m .lines ++ nodeLines (suc i) nets es) (sym (entries-from s i h))
+        ∙ m .rest
+
+    pub through-more : (k a : ℕ) {nets′ : ℕ} {text″ : List ℕ} {end′ : ℕ} → Got s (16 + 6 * i) 2 k → Got s (18 + 6 * i) 4 a
+        → Wrote text′ end (nodeLine (i + 1) nets (entry k a)) text″ end′ → end′ ≤ end + 16 → nets′ ≡ openAfter nets (entry k a) → nets′ ≤ nets + 1
+        → Through s text at (i + 1) nets′ text″ end′
+    unfolding entryAt
+    through-more k a {nets′} gk ga w r e l =
+        let is : entryAt s i ≡ entry k a = ap₂ entry (sym (gk .is)) (sym (ga .is)) in
+        record {
+          within = omega arith;
+          few = omega (arith, m .few);
+          room = omega (arith, m .room);
+          lines = m .lines ++ nodeLine (i + 1) nets (entry k a);
+          wrote = wrote-more (m .wrote) w;
+          rest =
+              ap (λ (b : ℕ). (m .lines ++ nodeLine (i + 1) nets (entry k a)) ++ nodeLines (suc (i + 1)) b (drop (i + 1) (entriesOf s))) e
+              ∙ node-rest k a is;
+        }
+
+  pub through-all : (i nets : ℕ) (text′ : List ℕ) (end : ℕ) → i ≡ countOf s → Through s text at i nets text′ end
+      → Wrote text at (nodeLines 1 0 (entriesOf s)) text′ end
+  unfolding nodeLines
+  through-all i nets text′ end e m =
+      let all : m .lines ≡ nodeLines 1 0 (entriesOf s) =
+      sym (append-nil (m .lines)) ∙ ap (λ (es : List Entry). m .lines ++ nodeLines (suc i) nets es) (sym (entries-end s i e)) ∙ m .rest in
+      rw all at (m .wrote)

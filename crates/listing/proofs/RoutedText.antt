@@ -1,0 +1,155 @@
+-- What the router gives can be listed, and its text is that of the row: of the first placing's sheet, or of the refusal.
+use mathlib.Core.Path.{_≡_, refl, sym, ap, ap₂, _∙_}
+use mathlib.Core.Bool.{Bool, true, false, not}
+use mathlib.Core.List.{List, [], _∷_, _++_}
+use mathlib.Core.Option.{Option, none, some}
+use Prim.Native.Nat.{ℕ, suc, _+_, _*_, _≤_, _<_}
+use native.Mathlib.Omega.{arith}
+use lib.ListN.{length, drop, replicate, length-append, length-replicate}
+use lib.Dec.{ltb}
+use Rattle.rules.specs.declared.Routing.{Routing}
+use Rattle.rules.specs.declared.Routing.the-variants.{Sheet, RowLength, Tracks, Lone, WorkShort, SheetShort, Stuck}
+use Rattle.rules.specs.Basic.{keep, orElse, settle}
+use Rattle.rules.specs.Row.{nodes}
+use Rattle.rules.specs.Street.{first}
+use Rattle.rules.specs.Bits.{Below}
+use Rattle.rules.specs.Sheet.{takes, size, sheet, entries, upperOf, lowerOf, countOf, entriesOf, Placed}
+use Rattle.rules.specs.Judgement.{wrongCount}
+use Rattle.rules.specs.Answers.{says, routeSaid, firstLone, refusal, outcome, routing, firstSheet, written, sheetAfter}
+use Rattle.rules.proofs.SheetFields.{LaidOut}
+use Rattle.rules.proofs.Accepted.{length-entries, length-nodes, placed-laid}
+use Rattle.rules.proofs.Demand3.{Checked, checked-fit, Answered, placed, stuck, answered}
+use Rattle.router.specs.Routed.{Routed}
+use Rattle.bits.specs.Access.{Inside, Got}
+use Rattle.listing.specs.Text.{headLine, nodeLines, refusedLine, listed, answer, rowText}
+use Rattle.listing.specs.Wrote.{Wrote, Readable, Listable, Listing}
+use Rattle.listing.proofs.Writing.{wrote-more, wrote-listing}
+use Rattle.listing.proofs.FrontFields.{front-count, front-listed}
+
+-- ---- a sheet
+
+-- the head's fields lie in the sheet
+pub upper-inside : {s : List ℕ} {n : ℕ} → Readable s n → Inside s 0 4
+unfolding size
+upper-inside r = record { small = omega arith; within = omega (arith, r .whole) }
+
+pub lower-inside : {s : List ℕ} {n : ℕ} → Readable s n → Inside s 4 2
+unfolding size
+lower-inside r = record { small = omega arith; within = omega (arith, r .whole) }
+
+-- heading and node lines are the sheet's text
+pub sheet-listing : {s text text′ text″ : List ℕ} (n ku kl : ℕ) {mid end : ℕ} → Got s 0 4 ku → Got s 4 2 kl → Wrote text 0 (headLine n ku kl) text′ mid
+    → Wrote text′ mid (nodeLines 1 0 (entriesOf s)) text″ end → end ≤ length text → Listing (listed (Sheet n) s) text text″ end
+unfolding listed upperOf lowerOf
+sheet-listing {s} n ku kl gu gl w₁ w₂ h =
+    let e : headLine n ku kl ≡ headLine n (upperOf s) (lowerOf s) = ap₂ (headLine n) (gu .is) (gl .is) in
+    wrote-listing (wrote-more (rw e at w₁) w₂) h
+
+-- the same answer has the same text
+pub answer-listing : (r r′ : Routing) (s : List ℕ) {text text′ : List ℕ} {end : ℕ} → r ≡ r′ → Listing (listed r′ s) text text′ end → Listing (listed r s) text text′ end
+answer-listing r r′ s e l = rw e l
+
+-- ---- the router's answer
+
+-- a sheet is given only after checks 1 to 5
+module _ (row : List ℕ) (ku kl : ℕ) (work out : List ℕ) where
+  sheet-checked : (n : ℕ) → routing row ku kl work out ≡ Sheet n → Checked row ku kl work out
+  unfolding routing refusal settle orElse keep
+  sheet-checked n e =
+      go (wrongCount (length row)) (not (takes ku kl)) (ltb (firstLone row) (length row)) (ltb (length work) (90 * length row))
+      (ltb (length out) (size (length row))) e
+    where
+      late : Routing
+      late = outcome ku kl (nodes row) (first ku kl (nodes row))
+
+      checks : (t₁ t₂ t₃ t₄ t₅ : Bool) → Option Routing
+      checks t₁ t₂ t₃ t₄ t₅ =
+          orElse (keep t₁ RowLength) (orElse (keep t₂ Tracks) (orElse (keep t₃ (Lone (suc (firstLone row)))) (orElse (keep t₄ WorkShort) (keep t₅ SheetShort))))
+
+      go : (t₁ t₂ t₃ t₄ t₅ : Bool) → settle (checks t₁ t₂ t₃ t₄ t₅) late ≡ Sheet n → checks t₁ t₂ t₃ t₄ t₅ ≡ none
+      go true t₂ t₃ t₄ t₅ e = let z : _≡_ {A = ℕ} 0 1 = cc in absurd (omega arith)
+      go false true t₃ t₄ t₅ e = let z : _≡_ {A = ℕ} 0 1 = cc in absurd (omega arith)
+      go false false true t₄ t₅ e = let z : _≡_ {A = ℕ} 0 1 = cc in absurd (omega arith)
+      go false false false true t₅ e = let z : _≡_ {A = ℕ} 0 1 = cc in absurd (omega arith)
+      go false false false false true e = let z : _≡_ {A = ℕ} 0 1 = cc in absurd (omega arith)
+      go false false false false false e = refl
+
+  -- the sheet that is given has n nodes, and its size
+  record Given (n : ℕ) : Type 0 where
+    few : n ≤ 512
+    count : countOf (firstSheet row ku kl) ≡ n
+    sized : length (firstSheet row ku kl) ≡ size n
+
+  sheet-given : Below 256 row → (n : ℕ) → routing row ku kl work out ≡ Sheet n → Given n
+  sheet-given b n e = go (answered row ku kl work out (sheet-checked n e))
+    where
+      go : Answered row ku kl work out (sheet-checked n e) → Given n
+      go (stuck i x s a) = let z : _≡_ {A = ℕ} 0 1 = cc in absurd (omega arith)
+      go (placed ps f a s) =
+          let h = checked-fit row ku kl work out (sheet-checked n e) in
+          let is : length row ≡ n = cc in
+          let l = placed-laid row ku kl ps
+          (record { bytes-alone = b; least = h .least; most = h .most; whole = h .whole; upper = h .upper; lower = h .lower; placing = f .placing }) in
+          let k : length (entries (nodes row) ps) ≡ n = length-entries ku kl (nodes row) [] ps [] (f .placing) ∙ length-nodes row ∙ is in
+          record {
+            few = omega (arith, h .most);
+            count = ap countOf s ∙ l .count ∙ k;
+            sized = ap length s ∙ l .sized ∙ ap size k;
+          }
+
+  module _ (b : Below 256 row) (r : Routing) (work′ out′ : List ℕ) (c : Routed row ku kl work out r work′ out′) where
+    abbrev S : List ℕ
+    S = firstSheet row ku kl
+
+    behind : (n : ℕ) → r ≡ Sheet n → out′ ≡ S ++ drop (length S) out
+    unfolding sheetAfter written
+    behind n e = c .written ∙ ap (λ (q : Routing). sheetAfter q row ku kl out) e
+
+    long : (n : ℕ) → r ≡ Sheet n → 2 ≤ length S
+    unfolding size
+    long n e = omega (arith, sheet-given b n (sym (c .answer) ∙ e) .sized)
+
+    routed-listable : Listable r out′
+    routed-listable n e =
+        let g = sheet-given b n (sym (c .answer) ∙ e) in
+        let t : List ℕ = drop (length S) out in
+        record {
+          few = g .few;
+          count = ap countOf (behind n e) ∙ front-count S t (long n e) ∙ g .count;
+          whole = omega (arith, ap length (behind n e), length-append S t, g .sized);
+        }
+
+    same-text : (q : Routing) → r ≡ q → listed q out′ ≡ listed q S
+    unfolding listed
+    same-text (Sheet n) e =
+        let g = sheet-given b n (sym (c .answer) ∙ e) in
+        ap (listed (Sheet n)) (behind n e) ∙ front-listed S (drop (length S) out) (omega (arith, g .sized, ap size (g .count))) n
+    same-text RowLength e = refl
+    same-text Tracks e = refl
+    same-text (Lone i) e = refl
+    same-text WorkShort e = refl
+    same-text SheetShort e = refl
+    same-text (Stuck i) e = refl
+
+    -- only the lengths of the buffers matter
+    same-answer : length work ≡ 46080 → length out ≡ 386 → r ≡ answer row ku kl
+    unfolding answer routing size
+    same-answer w o =
+        c .answer
+        ∙ ap₂ (λ (k l : ℕ). settle (refusal (length row) (firstLone row) ku kl k l) (outcome ku kl (nodes row) (first ku kl (nodes row))))
+        (w ∙ sym (length-replicate {A = ℕ} 46080 0)) (o ∙ sym (length-replicate {A = ℕ} 386 0))
+
+    routed-text : length work ≡ 46080 → length out ≡ 386 → listed r out′ ≡ rowText row ku kl
+    unfolding rowText
+    routed-text w o = same-text r refl ∙ ap (λ (q : Routing). listed q S) (same-answer w o)
+
+pub text-listing : {new new′ text text′ : List ℕ} {end : ℕ} → new ≡ new′ → Listing new text text′ end → Listing new′ text text′ end
+text-listing e l = rw e at l
+
+module _ {row : List ℕ} {ku kl : ℕ} {work out : List ℕ} {r : Routing} {work′ out′ : List ℕ} (b : Below 256 row) (c : Routed row ku kl work out r work′ out′) where
+  pub listable : Listable r out′
+  listable = routed-listable row ku kl work out b r work′ out′ c
+
+  pub routed-listing : length work ≡ 46080 → length out ≡ 386 → {text text′ : List ℕ} {end : ℕ} → Listing (listed r out′) text text′ end
+      → Listing (rowText row ku kl) text text′ end
+  routed-listing w o = text-listing (routed-text row ku kl work out b r work′ out′ c w o)
