@@ -1,12 +1,13 @@
 -- Three fields that are put one after the other are five bytes of a record, and a record's bits are such fields.
 use mathlib.Core.Path.{_≡_, sym, ap, ap₂, _∙_}
-use mathlib.Core.List.{List, _++_, append-assoc}
+use mathlib.Core.List.{List, [], _++_, append-assoc, append-nil}
 use Prim.Native.Nat.{ℕ, _+_, _*_, _^_, _≤_, _<_, min, max}
 use native.Mathlib.Nat.{add-assoc}
 use native.Mathlib.Omega.{arith}
 use lib.ListN.{length, getD, take, drop, length-append}
-use lib.Seq.{take-all, drop-drop, paste, take-paste, drop-paste}
+use lib.Seq.{take-all, drop-length, drop-drop, paste, take-paste, drop-paste}
 use lib.Dec.{ltb}
+use borrow.Rule.Slice.PartMut.{putMid}
 use mathlib.Core.Bool.{true, false}
 use borrow.Author.Tests.{ltb-true, ltb-false, le-leb, lt-leb}
 use Rattle.rules.specs.Basic.{pick}
@@ -83,6 +84,32 @@ module _ (film s₁ s₂ s₃ : List ℕ) (i a b c : ℕ) (p : Below 256 film) (
       ∙ paste-both (bits film) (x ++ y) z k 26 14 (omega (arith, length-append x y, length-digits 13 a, length-digits 13 b)) (length-digits 14 c) (omega arith) in
       stamped film (x ++ y ++ z) i p (below-append (below-append (below-digits 13 a) (below-digits 13 b)) (below-digits 14 c)) n h s₃ q three
       ∙ ap (stamp film i) (append-assoc x y z)
+
+pub three-bytes : (a b c : ℕ) → length (bytes (digits 13 a ++ (digits 13 b ++ digits 14 c))) ≡ 5
+three-bytes a b c =
+    length-bytes 5 (digits 13 a ++ (digits 13 b ++ digits 14 c))
+    (omega (arith, length-append (digits 13 a) (digits 13 b ++ digits 14 c), length-append (digits 13 b) (digits 14 c), length-digits 13 a, length-digits 13 b, length-digits 14 c))
+
+-- five bytes with these fields, and a film with them in the place of record i
+pub cell-three : (cell s₁ s₂ s₃ : List ℕ) (a b c : ℕ) → Below 256 cell → Below 256 s₃ → length cell ≡ 5
+    → Put cell 0 13 a s₁ → Put s₁ 13 13 b s₂ → Put s₂ 26 14 c s₃ → s₃ ≡ bytes (digits 13 a ++ (digits 13 b ++ digits 14 c))
+unfolding stamp pick
+cell-three cell s₁ s₂ s₃ a b c p q n e f g =
+    let l : List ℕ = digits 13 a ++ (digits 13 b ++ digits 14 c) in
+    let five : length (bytes l) ≡ 5 = three-bytes a b c in
+    let h : 5 ≤ length cell = omega arith in
+    let none : drop 5 cell ≡ [] = ap (λ (j : ℕ). drop j cell) (sym n) ∙ drop-length cell in
+    let z : s₃ ≡ stamp cell 0 l = stamp-three cell s₁ s₂ s₃ 0 a b c p q (omega arith) e f g in
+    rw (le-leb 5 (length cell) h) at z ∙ rw none (append-nil (take 5 (bytes l)) ∙ take-all 5 (bytes l) (omega arith))
+
+pub cell-stamped : (film cell l : List ℕ) (i m : ℕ) → 5 * i + 5 ≤ length film → m ≡ 5 → length (bytes l) ≡ 5 → cell ≡ bytes l
+    → putMid (5 * i) m film cell ≡ stamp film i l
+unfolding stamp pick
+cell-stamped film cell l i m h e n q =
+    let all : cell ≡ take 5 (bytes l) = q ∙ sym (take-all 5 (bytes l) (omega arith)) in
+    rw (le-leb (5 * i + 5) (length film) h)
+    (ap₂ (λ (r t : List ℕ). take (5 * i) film ++ (r ++ t)) all (ap (λ (k : ℕ). drop k (drop (5 * i) film)) e ∙ drop-drop 5 (5 * i) film)
+    ∙ sym (append-assoc (take (5 * i) film) (take 5 (bytes l)) (drop (5 * i + 5) film)))
 
 -- ---- a record's bits as fields of 13, 13 and 14
 

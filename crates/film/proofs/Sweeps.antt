@@ -7,7 +7,7 @@ use native.Mathlib.Nat.{add-zero}
 use native.Mathlib.Numerals.{add-one}
 use native.Mathlib.Omega.{arith}
 use lib.ListN.{length, getD, take, drop, set, length-append, List·getD-append}
-use lib.Seq.{set-getD, take-suc-set, take-suc, drop-set-lt, drop-cons, drop-length, take-length, append-snoc, set-at, paste, length-paste, length-take-le, getD-take}
+use lib.Seq.{set-getD, drop-drop, getD-drop, take-suc-set, take-suc, drop-set-lt, drop-cons, drop-length, take-length, append-snoc, set-at, paste, length-paste, length-take-le, getD-take}
 use lib.Dec.{ltb, leb}
 use borrow.Author.Tests.{leb-true}
 use lib.IntN.{ℤ, pos}
@@ -21,7 +21,7 @@ use Rattle.film.specs.Heights.{high}
 use Rattle.film.specs.Stamps.{stamp, laid}
 use Rattle.film.specs.Wires.{wire, listed, blank, wireAt, Sound, Moved}
 use Rattle.film.specs.Moves.{Stepped, Swept}
-use Rattle.film.proofs.Cells.{length-listed, wire-at}
+use Rattle.film.proofs.Cells.{length-listed, wire-at, height-of}
 
 -- ---- records laid one after the other
 
@@ -78,20 +78,19 @@ module _ (p : Pen) (q : ℕ) (film : List ℕ) where
         bytes = refl;
       })
 
-  module _ (s : Sound (p .wires)) (l : q < p .wires .count) (b : Bool) (e : b ≡ true) (z : ℤ) where
+  module _ (s : Sound (p .wires)) (l : q < p .wires .count) (z : ℤ) where
     -- a run that ends and a vertical; the heights as they were handed on
     pub step-moves : (f₁ f₂ : List ℕ) (w : Wires) {o₁ o₂ t : ℕ} {z₃ : ℤ}
         → o₁ ≡ high (getD (p .wires .levels) q (pos 0)) → o₂ ≡ high (getD (p .wires .levels) q (pos 0)) → t ≡ high z → z₃ ≡ z
         → f₁ ≡ stamp film (p .drawn) (recBits (across (getD (p .wires .nets) q 0) o₁ (getD (p .wires .starts) q 0) (p .column)))
         → f₂ ≡ stamp f₁ (p .drawn + 1) (recBits (upright (getD (p .wires .nets) q 0) (min t o₂) (p .column) (max t o₂)))
         → Moved (p .wires) q z₃ (p .column) w
-        → Stepped b (high z) q p film (record { wires = w; column = p .column + 1; drawn = p .drawn + 2 }) f₂
+        → Stepped true (high z) q p film (record { wires = w; column = p .column + 1; drawn = p .drawn + 2 }) f₂
     unfolding bent pick drawn laid ran wall
     step-moves f₁ f₂ w {o₁} {o₂} {t} {z₃} p₁ p₂ p₃ p₄ e₁ e₂ m =
         let there : wireAt (p .wires) q ≡ wire (getD (p .wires .nets) q 0) (getD (p .wires .levels) q (pos 0)) (getD (p .wires .starts) q 0) =
         wire-at (p .wires) q s l in
-        rw e
-        (record {
+        record {
           sound = m .sound;
           count = m .count;
           list = m .list ∙ ap (λ (y : ℤ). set (listed (p .wires)) q (bent true (high y) (p .column) (wireAt (p .wires) q))) p₄;
@@ -104,7 +103,7 @@ module _ (p : Pen) (q : ℕ) (film : List ℕ) where
               ∙ ap₂ (λ (f : List ℕ) (i : ℕ). stamp f i (recBits (upright (getD (p .wires .nets) q 0) (min (high z) (high (getD (p .wires .levels) q (pos 0)))) (p .column) (max (high z) (high (getD (p .wires .levels) q (pos 0)))))))
               (e₁ ∙ ap (λ (a : ℕ). stamp film (p .drawn) (recBits (across (getD (p .wires .nets) q 0) a (getD (p .wires .starts) q 0) (p .column)))) p₁)
               (add-one (p .drawn)));
-        })
+        }
 
   -- a step whose test and height are written otherwise
   pub step-as : {b b′ : Bool} {h h′ : ℕ} {r : Pen} {after : List ℕ} → b ≡ b′ → h ≡ h′ → Stepped b h q p film r after → Stepped b′ h′ q p film r after
@@ -132,6 +131,7 @@ module _ (t : ℕ → ℕ) (p₀ : Pen) (film₀ : List ℕ) where
     pub column : climb t q (p .column) (drop q (listed (p .wires))) .column ≡ goal .column
     pub records : p .drawn + length (climb t q (p .column) (drop q (listed (p .wires))) .film) ≡ p₀ .drawn + length (goal .film)
     pub bytes : laid film (p .drawn) (climb t q (p .column) (drop q (listed (p .wires))) .film) ≡ laid film₀ (p₀ .drawn) (goal .film)
+    pub same : drop q (listed (p .wires)) ≡ drop q (listed (p₀ .wires))
     pub across : p .column ≤ p₀ .column + q
     pub room : p .drawn ≤ p₀ .drawn + 2 * q
 
@@ -145,6 +145,7 @@ module _ (t : ℕ → ℕ) (p₀ : Pen) (film₀ : List ℕ) where
         column = refl;
         records = refl;
         bytes = refl;
+        same = refl;
         across = omega arith;
         room = omega arith;
       }
@@ -199,9 +200,41 @@ module _ (t : ℕ → ℕ) (p₀ : Pen) (film₀ : List ℕ) where
               ∙ sym (laid-append film (p .drawn) (drawn up (t q) (p .column) (wireAt (p .wires) q)) (rest .film))
               ∙ ap (λ (x : Sweep). laid film (p .drawn) (x .film)) (sym opened)
               ∙ c .bytes;
+          same =
+              ap (drop (suc q)) (s .list)
+              ∙ drop-set-lt (suc q) (listed (p .wires)) q (bent up (t q) (p .column) (wireAt (p .wires) q)) (omega arith)
+              ∙ ap (λ (k : ℕ). drop k (listed (p .wires))) (sym (add-one q))
+              ∙ sym (drop-drop 1 q (listed (p .wires)))
+              ∙ ap (drop 1) (c .same)
+              ∙ drop-drop 1 q (listed (p₀ .wires))
+              ∙ ap (λ (k : ℕ). drop k (listed (p₀ .wires))) (add-one q);
           across = omega (arith, step-across p q film s, c .across);
           room = omega (arith, step-room p q film s, c .room);
         })
+
+  -- a wire that is reached stands as it stood, and its test is on the level that it had
+  module _ (p : Pen) (film : List ℕ) (q : ℕ) (c : Climbing p film q) (h : q < p₀ .wires .count) (s₀ : Sound (p₀ .wires))
+      {o n : ℕ} (old : o ≡ high (getD (p₀ .wires .levels) q (pos 0))) (new : n ≡ t q) where
+    stood : wireAt (p .wires) q ≡ wireAt (p₀ .wires) q
+    stood =
+        ap (λ (k : ℕ). getD (listed (p .wires)) k blank) (sym (add-zero q))
+        ∙ sym (getD-drop q (listed (p .wires)) 0 blank)
+        ∙ ap (λ (l : List Wire). getD l 0 blank) (c .same)
+        ∙ getD-drop q (listed (p₀ .wires)) 0 blank
+        ∙ ap (λ (k : ℕ). getD (listed (p₀ .wires)) k blank) (add-zero q)
+
+    tested : ltb o n ≡ ltb (wireAt (p .wires) q .height) (t q)
+    tested = ap₂ ltb (old ∙ height-of (p₀ .wires) q s₀ h ∙ ap (λ (w : Wire). w .height) (sym stood)) new
+
+    within-p : q < p .wires .count
+    within-p = omega (arith, c .count)
+
+    pub climb-moved : (r : Pen) (after : List ℕ) → ltb o n ≡ true → Stepped true n q p film r after → Climbing r after (q + 1)
+    climb-moved r after e s = climb-step p r film after q c within-p (step-as p q film (sym e ∙ tested) new s)
+
+    pub climb-rested : ltb o n ≡ false → Climbing p film (q + 1)
+    climb-rested e =
+        climb-step p p film film q c within-p (step-rests p q film (ltb (wireAt (p .wires) q .height) (t q)) (t q) (sym tested ∙ e) (c .sound) within-p)
 
   pub climb-kept : (p : Pen) (film : List ℕ) (q : ℕ) → Climbing p film q → length film ≡ length film₀
   climb-kept p film q c =
@@ -347,6 +380,31 @@ module _ (t : ℕ → ℕ) (p₀ : Pen) (film₀ : List ℕ) where
           across = omega (arith, step-across p q film s, c .across);
           room = omega (arith, step-room p q film s, c .room);
         }
+
+  -- a wire that is reached stands as it stood, and its test is on the level that it had
+  module _ (p : Pen) (film : List ℕ) (m q : ℕ) (i : m ≡ suc q) (c : Sinking p film m) (s₀ : Sound (p₀ .wires))
+      {o n : ℕ} (old : o ≡ high (getD (p₀ .wires .levels) q (pos 0))) (new : n ≡ t q) where
+    under : q < p₀ .wires .count
+    under = omega (arith, c .within)
+
+    under-p : q < p .wires .count
+    under-p = omega (arith, c .within, c .count)
+
+    standing : wireAt (p .wires) q ≡ wireAt (p₀ .wires) q
+    standing =
+        ap (λ (l : List Wire). getD l q blank) (c .list ∙ ap (λ (k : ℕ). take k whole ++ lower k .wires) i)
+        ∙ List·getD-append (take (suc q) whole) (lower (suc q) .wires) blank q (omega (arith, length-take-le (suc q) whole (omega (arith, length-listed (p₀ .wires) s₀, under))))
+        ∙ getD-take (suc q) whole q blank (omega arith)
+
+    weighed : ltb n o ≡ ltb (t q) (wireAt (p .wires) q .height)
+    weighed = ap₂ ltb new (old ∙ height-of (p₀ .wires) q s₀ under ∙ ap (λ (w : Wire). w .height) (sym standing))
+
+    pub sink-moved : (r : Pen) (after : List ℕ) → ltb n o ≡ true → Stepped true n q p film r after → Sinking r after q
+    sink-moved r after e s = sink-step p r film after m q i s₀ c (step-as p q film (sym e ∙ weighed) new s)
+
+    pub sink-rested : ltb n o ≡ false → Sinking p film q
+    sink-rested e =
+        sink-step p p film film m q i s₀ c (step-rests p q film (ltb (t q) (wireAt (p .wires) q .height)) (t q) (sym weighed ∙ e) (c .sound) under-p)
 
   pub sink-kept : (p : Pen) (film : List ℕ) (q : ℕ) → Sinking p film q → length film ≡ length film₀
   sink-kept p film q c = ap length (c .bytes) ∙ laid-length film₀ (p₀ .drawn) (lower q .film)

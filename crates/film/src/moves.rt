@@ -4,11 +4,11 @@ use crate::levels::rises;
 use crate::records::put_across;
 use crate::records::put_wall;
 use crate::wires::Wires;
+ghost use mathlib.Core.Bool.{true};
 ghost use Prim.Native.Nat.{suc, _+_, _-_, _≤_, _<_};
-ghost use lib.Dec.{ltb};
 ghost use Rattle.rules.specs.Film.{climb as climbing, sink as sinking, gap};
 ghost use Rattle.film.specs.Heights.{high, Level, Reached};
-ghost use Rattle.film.specs.Wires.{listed, wireAt};
+ghost use Rattle.film.specs.Wires.{listed};
 ghost use Rattle.film.specs.Moves.{aim, Fitting, Able, Stepped, Swept};
 
 // The film so far: the open wires, the next free column, and the number of records drawn.
@@ -40,12 +40,18 @@ fn climb(film: &mut [u8], pen: Pen, node: Node) -> Pen
     ensures { λ r. ⌜ Swept (climbing (aim node) 0 (pen .column) (listed (pen .wires))) (pen .wires .count) pen (now (film .entry)) r (now (film .exit)) ⌝ }
 {
     let wires = pen.wires;
+    let levels = wires.levels;
     let count = wires.count;
     let mut at = pen;
     let mut q = 0;
     while q < count {
-        at = rise(film, at, node, q);
+        let here = q;
+        let old = levels[here];
+        let level = target(node, here);
         q += 1;
+        if rises(old, level) {
+            at = step(film, at, here, level);
+        }
     }
     at
 }
@@ -56,37 +62,19 @@ fn sink(film: &mut [u8], pen: Pen, node: Node) -> Pen
     ensures { λ r. ⌜ Swept (sinking (aim node) 0 (pen .column) (listed (pen .wires))) (pen .wires .count) pen (now (film .entry)) r (now (film .exit)) ⌝ }
 {
     let wires = pen.wires;
+    let levels = wires.levels;
     let mut at = pen;
     let mut q = wires.count;
     while 0 < q {
         q -= 1;
-        at = fall(film, at, node, q);
+        let here = q;
+        let old = levels[here];
+        let level = target(node, here);
+        if rises(level, old) {
+            at = step(film, at, here, level);
+        }
     }
     at
-}
-
-// Moves the wire with q above it, if it goes up.
-fn rise(film: &mut [u8], pen: Pen, node: Node, q: usize) -> Pen
-    requires { ⌜ Able pen 1 × (q < pen .wires .count) × Fitting node (suc q) ⌝ }
-    ensures { λ r. ⌜ Stepped (ltb (wireAt (pen .wires) q .height) (aim node q)) (aim node q) q pen (now (film .entry)) r (now (film .exit)) ⌝ }
-{
-    let level = target(node, q);
-    let wires = pen.wires;
-    let old = wires.levels[q];
-    let up = rises(old, level);
-    step(film, pen, q, level, up)
-}
-
-// Moves the wire with q above it, if it goes down.
-fn fall(film: &mut [u8], pen: Pen, node: Node, q: usize) -> Pen
-    requires { ⌜ Able pen 1 × (q < pen .wires .count) × Fitting node (suc q) ⌝ }
-    ensures { λ r. ⌜ Stepped (ltb (aim node q) (wireAt (pen .wires) q .height)) (aim node q) q pen (now (film .entry)) r (now (film .exit)) ⌝ }
-{
-    let level = target(node, q);
-    let wires = pen.wires;
-    let old = wires.levels[q];
-    let down = rises(level, old);
-    step(film, pen, q, level, down)
 }
 
 // The level at a node of the wire that has q above it before: a new wire stands between those above it and those below.
@@ -108,14 +96,11 @@ fn target(node: Node, q: usize) -> i8
     }
 }
 
-// Where `goes` holds, ends the run of the wire with q above it at the next free column, and moves it there to a level.
-fn step(film: &mut [u8], pen: Pen, q: usize, level: i8, goes: bool) -> Pen
+// Ends the run of the wire with q above it at the next free column, and moves it there to a level.
+fn step(film: &mut [u8], pen: Pen, q: usize, level: i8) -> Pen
     requires { ⌜ Able pen 1 × (q < pen .wires .count) × Level level ⌝ }
-    ensures { λ r. ⌜ Stepped goes (high level) q pen (now (film .entry)) r (now (film .exit)) ⌝ }
+    ensures { λ r. ⌜ Stepped true (high level) q pen (now (film .entry)) r (now (film .exit)) ⌝ }
 {
-    if !goes {
-        return pen;
-    }
     let wires = pen.wires;
     let column = pen.column;
     let drawn = pen.drawn;

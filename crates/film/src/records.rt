@@ -5,7 +5,8 @@ use bits::put_bits;
 ghost use mathlib.Core.Path.{_≡_};
 ghost use mathlib.Core.List.{_++_};
 ghost use Prim.Native.Nat.{_^_, _<_, min, max};
-ghost use Rattle.rules.specs.Bits.{digits};
+ghost use lib.ListN.{length};
+ghost use Rattle.rules.specs.Bits.{digits, bytes};
 ghost use Rattle.rules.specs.Film.{across, upright, recBits};
 ghost use Rattle.film.specs.Heights.{high, Level};
 ghost use Rattle.film.specs.Stamps.{columns, most, stamp};
@@ -46,11 +47,19 @@ fn put_record(film: &mut [u8], at: usize, first: u16, second: u16, third: u16)
     ensures { λ _. ⌜ now (film .exit) ≡ stamp (now (film .entry)) at (digits 13 first ++ (digits 13 second ++ digits 14 third)) ⌝ }
 {
     let start = 5 * at;
-    if film.len() < start + 5 {
+    let end = start + 5;
+    if film.len() < end {
         return;
     }
-    let bit = 8 * start;
-    put_bits(film, bit, 13, first);
-    put_bits(film, bit + 13, 13, second);
-    put_bits(film, bit + 26, 14, third);
+    fill(&mut film[start..end], first, second, third);
+}
+
+// Writes numbers of 13, 13 and 14 bits into five bytes.
+fn fill(cell: &mut [u8], first: u16, second: u16, third: u16)
+    requires { ⌜ (length (now cell) ≡ 5) × (first < 2 ^ 13) × (second < 2 ^ 13) × (third < 2 ^ 14) ⌝ }
+    ensures { λ _. ⌜ now (cell .exit) ≡ bytes (digits 13 first ++ (digits 13 second ++ digits 14 third)) ⌝ }
+{
+    put_bits(cell, 0, 13, first);
+    put_bits(cell, 13, 13, second);
+    put_bits(cell, 26, 14, third);
 }

@@ -1,8 +1,9 @@
--- `film::records::put_record` meets its contract: three fields put one after the other are the record (`stamp-three`). Assumes nothing.
-use native.Mathlib.Omega.{arith}
-use Rattle.film.proofs.Stamping.{stamp-short, bytes-below, stamp-three}
-use Rattle.rules.specs.Bits.{digits}
+-- `film::records::put_record` meets its contract: five bytes in the place of the record (`cell-stamped`). Assumes nothing.
 use mathlib.Core.List.{_++_}
+use Prim.Native.Nat.{_+_, _-_, _*_}
+use native.Mathlib.Omega.{arith}
+use Rattle.rules.specs.Bits.{digits}
+use Rattle.film.proofs.Stamping.{stamp-short, three-bytes, cell-stamped}
 use borrow.Author.Needs.{needs}
 use Rattle.film.proofs.records.put_record.Statement.{statement}
 use Rattle.film.proofs.records.put_record.Tie as tie
@@ -10,62 +11,45 @@ use Rattle.film.proofs.records.put_record.Tie as tie
 mul-start : tie.Need-mul-start
 mul-start c = search needs
 
-add-if1 : tie.Need-add-if1
-add-if1 c = search needs
+add-end : tie.Need-add-end
+add-end c = search needs
 
 returns : tie.Need-returns
 returns c =
     let a = c .before .before .args in
     stamp-short (a .film .now) (digits 13 (a .first) ++ (digits 13 (a .second) ++ digits 14 (a .third))) (a .at) (c .if1 .taken)
 
-mul-bit : tie.Need-mul-bit
-mul-bit c = search needs
+sub-fill : tie.Need-sub-fill
+sub-fill c = search needs
 
-put-bits-requires : tie.Need-put-bits-requires
-put-bits-requires c κs = search needs
+part-fill-start : tie.Need-part-fill-start
+part-fill-start c = search needs
 
-add-put-bits : tie.Need-add-put-bits
-add-put-bits c = search needs
+part-fill-end : tie.Need-part-fill-end
+part-fill-end c = search needs
 
-put-bits-requires-2 : tie.Need-put-bits-requires-2
-put-bits-requires-2 c κs = search needs
-
-add-put-bits-2 : tie.Need-add-put-bits-2
-add-put-bits-2 c = search needs
-
-put-bits-requires-3 : tie.Need-put-bits-requires-3
-put-bits-requires-3 c κs = search needs
+fill-requires : tie.Need-fill-requires
+fill-requires c κs = search needs
 
 same-length : tie.Need-same-length
 same-length c = search needs
 
 returns-2 : tie.Need-returns-2
 returns-2 c =
-    let start = c .before .before .before .before .before .before .before .before .before .before .before .before .before .before in
-    let a = start .args in
-    let known = c .before .before .before .before .before .before .before .before .before .before .before .before .before in
-    let first = c .before .before .before .before .before .before .before .before .before .before in
-    let second = c .before .before .before .before .before .before in
-    let third = c .before .before in
-    stamp-three (a .film .now) (first .put-bits .last .0) (second .put-bits2 .last .0) (third .put-bits3 .last .0)
-    (a .at) (a .first) (a .second) (a .third)
-    (bytes-below (a .film .now) (λ i. omega (arith, known .slice-known .given i)))
-    (bytes-below (third .put-bits3 .last .0) (λ i. omega (arith, c .slice-known4 .given i)))
-    (omega (arith, c .before .before .before .before .before .before .before .before .before .before .before .before .if1 .left))
-    (first .put-bits .ensures) (second .put-bits2 .ensures) (third .put-bits3 .ensures)
+    let a = c .before .before .before .before .before .before .args in
+    let l = digits 13 (a .first) ++ (digits 13 (a .second) ++ digits 14 (a .third)) in
+    cell-stamped (a .film .now) (c .before .before .fill .last .0) l (a .at) (5 * a .at + 5 - 5 * a .at) (c .before .before .before .before .if1 .left) (omega arith) (three-bytes (a .first) (a .second) (a .third)) (c .before .before .fill .ensures)
 
 pub put-record-spec : {M : Type 1} → statement M
 put-record-spec =
     tie.close
     (tie.spec
     mul-start
-    add-if1
+    add-end
     returns
-    mul-bit
-    put-bits-requires
-    add-put-bits
-    put-bits-requires-2
-    add-put-bits-2
-    put-bits-requires-3
+    sub-fill
+    part-fill-start
+    part-fill-end
+    fill-requires
     same-length
     returns-2)
