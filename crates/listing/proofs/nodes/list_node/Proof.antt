@@ -1,6 +1,6 @@
 -- `listing::nodes::list_node` meets its contract: four fields make the line. Assumes nothing.
-use mathlib.Core.List.{List, [], _∷_}
-use Prim.Native.Nat.{ℕ, _+_}
+use mathlib.Core.List.{[], _∷_}
+use Prim.Native.Nat.{_+_}
 use native.Mathlib.Omega.{arith}
 use borrow.Author.Needs.{needs}
 use Rattle.listing.proofs.Lines.{word-ends, number-ends, wrote-node}
