@@ -1,18 +1,17 @@
 -- The text of an input is that of its row under its track counts, and its first 515 bytes decide it.
-use mathlib.Core.Path.{_≡_, refl, sym, ap, ap₂, _∙_}
-use mathlib.Core.Bool.{Bool, true, false, _||_}
+use mathlib.Core.Path.{_≡_, refl, ap}
+use mathlib.Core.Bool.{Bool, true, false}
 use mathlib.Core.List.{List, [], _∷_}
-use Prim.Native.Nat.{ℕ, suc, _+_, _-_, _*_, _≤_, _<_}
+use Prim.Native.Nat.{ℕ, _-_, _≤_, _<_}
 use native.Mathlib.Omega.{arith}
-use lib.ListN.{length, getD, take, drop, replicate, length-take}
+use lib.ListN.{length, getD, take, drop}
 use lib.Seq.{take-all, length-take-le}
 use lib.Dec.{ltb}
 use borrow.Author.Tests.{lt-ltb, le-ltb, ltb-true, ltb-false}
 use Rattle.rules.specs.declared.Routing.{Routing}
 use Rattle.rules.specs.Basic.{keep, orElse, settle}
-use Rattle.rules.specs.Sheet.{size}
 use Rattle.rules.specs.Judgement.{wrongCount}
-use Rattle.rules.specs.Answers.{refusal, routing, firstSheet}
+use Rattle.rules.specs.Answers.{refusal, routing}
 use Rattle.listing.specs.Text.{listed, upperIn, lowerIn, rowIn, answer, rowText, inputText}
 
 pub short-input : (input : List ℕ) → length input < 2 → rowText [] 0 0 ≡ inputText input

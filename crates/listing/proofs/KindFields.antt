@@ -1,8 +1,8 @@
 -- The kind of a kind field by its number, and the open nets at and after such a node.
-use mathlib.Core.Path.{_≡_, refl, sym, ap, _∙_}
-use Prim.Native.Nat.{ℕ, zero, suc, _+_, _-_, _≤_, _<_}
+use mathlib.Core.Path.{_≡_, refl, ap}
+use Prim.Native.Nat.{ℕ, zero, suc, _+_, _-_, _≤_}
 use native.Mathlib.Omega.{arith}
-use Rattle.rules.specs.Row.{Kind, B, M, E}
+use Rattle.rules.specs.Row.{B, M, E}
 use Rattle.rules.specs.Street.{counted}
 use Rattle.rules.specs.Sheet.{kindIn}
 use Rattle.rules.specs.Judgement.{left}

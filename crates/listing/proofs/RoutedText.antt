@@ -1,9 +1,9 @@
 -- What the router gives can be listed, and its text is that of the row: of the first placing's sheet, or of the refusal.
 use mathlib.Core.Path.{_≡_, refl, sym, ap, ap₂, _∙_}
 use mathlib.Core.Bool.{Bool, true, false, not}
-use mathlib.Core.List.{List, [], _∷_, _++_}
-use mathlib.Core.Option.{Option, none, some}
-use Prim.Native.Nat.{ℕ, suc, _+_, _*_, _≤_, _<_}
+use mathlib.Core.List.{List, [], _++_}
+use mathlib.Core.Option.{Option, none}
+use Prim.Native.Nat.{ℕ, suc, _+_, _*_, _≤_}
 use native.Mathlib.Omega.{arith}
 use lib.ListN.{length, drop, replicate, length-append, length-replicate}
 use lib.Dec.{ltb}
@@ -11,17 +11,17 @@ use Rattle.rules.specs.declared.Routing.{Routing}
 use Rattle.rules.specs.declared.Routing.the-variants.{Sheet, RowLength, Tracks, Lone, WorkShort, SheetShort, Stuck}
 use Rattle.rules.specs.Basic.{keep, orElse, settle}
 use Rattle.rules.specs.Row.{nodes}
-use Rattle.rules.specs.Street.{first}
+use Rattle.rules.specs.Street.{first, IsFirst}
 use Rattle.rules.specs.Bits.{Below}
-use Rattle.rules.specs.Sheet.{takes, size, sheet, entries, upperOf, lowerOf, countOf, entriesOf, Placed}
+use Rattle.rules.specs.Sheet.{takes, size, sheet, Entry, entries, upperOf, lowerOf, countOf, entriesOf}
 use Rattle.rules.specs.Judgement.{wrongCount}
-use Rattle.rules.specs.Answers.{says, routeSaid, firstLone, refusal, outcome, routing, firstSheet, written, sheetAfter}
+use Rattle.rules.specs.Answers.{firstLone, refusal, outcome, routing, firstSheet, written, sheetAfter}
 use Rattle.rules.proofs.SheetFields.{LaidOut}
 use Rattle.rules.proofs.Accepted.{length-entries, length-nodes, placed-laid}
 use Rattle.rules.proofs.Demand3.{Checked, checked-fit, Answered, placed, stuck, answered}
 use Rattle.router.specs.Routed.{Routed}
 use Rattle.bits.specs.Access.{Inside, Got}
-use Rattle.listing.specs.Text.{headLine, nodeLines, refusedLine, listed, answer, rowText}
+use Rattle.listing.specs.Text.{headLine, nodeLines, listed, answer, rowText}
 use Rattle.listing.specs.Wrote.{Wrote, Readable, Listable, Listing}
 use Rattle.listing.proofs.Writing.{wrote-more, wrote-listing}
 use Rattle.listing.proofs.FrontFields.{front-count, front-listed}
@@ -74,27 +74,42 @@ module _ (row : List ℕ) (ku kl : ℕ) (work out : List ℕ) where
       go false false false false true e = let z : _≡_ {A = ℕ} 0 1 = cc in absurd (omega arith)
       go false false false false false e = refl
 
-  -- the sheet that is given has n nodes, and its size
+  -- the fields of the first placing's sheet
+  first-laid : Below 256 row → Checked row ku kl work out → (ps : List ℕ) → IsFirst ku kl (nodes row) ps → LaidOut ku kl (entries (nodes row) ps) (sheet ku kl (nodes row) ps)
+  first-laid b c ps f =
+      let h = checked-fit row ku kl work out c in
+      placed-laid row ku kl ps
+      (record { bytes-alone = b; least = h .least; most = h .most; whole = h .whole; upper = h .upper; lower = h .lower; placing = f .placing })
+
+  -- the sheet that is given has n nodes, its size, and the text of the first placing
   record Given (n : ℕ) : Type 0 where
     few : n ≤ 512
     count : countOf (firstSheet row ku kl) ≡ n
     sized : length (firstSheet row ku kl) ≡ size n
+    ps : List ℕ
+    first : IsFirst ku kl (nodes row) ps
+    text : listed (Sheet n) (firstSheet row ku kl) ≡ headLine n ku kl ++ nodeLines 1 0 (entries (nodes row) ps)
 
   sheet-given : Below 256 row → (n : ℕ) → routing row ku kl work out ≡ Sheet n → Given n
+  unfolding listed
   sheet-given b n e = go (answered row ku kl work out (sheet-checked n e))
     where
       go : Answered row ku kl work out (sheet-checked n e) → Given n
       go (stuck i x s a) = let z : _≡_ {A = ℕ} 0 1 = cc in absurd (omega arith)
       go (placed ps f a s) =
-          let h = checked-fit row ku kl work out (sheet-checked n e) in
           let is : length row ≡ n = cc in
-          let l = placed-laid row ku kl ps
-          (record { bytes-alone = b; least = h .least; most = h .most; whole = h .whole; upper = h .upper; lower = h .lower; placing = f .placing }) in
+          let l = first-laid b (sheet-checked n e) ps f in
           let k : length (entries (nodes row) ps) ≡ n = length-entries ku kl (nodes row) [] ps [] (f .placing) ∙ length-nodes row ∙ is in
           record {
-            few = omega (arith, h .most);
+            few = omega (arith, checked-fit row ku kl work out (sheet-checked n e) .most);
             count = ap countOf s ∙ l .count ∙ k;
             sized = ap length s ∙ l .sized ∙ ap size k;
+            ps = ps;
+            first = f;
+            text =
+                ap (listed (Sheet n)) s
+                ∙ ap₂ (λ (u v : ℕ). headLine n u v ++ nodeLines 1 0 (entriesOf (sheet ku kl (nodes row) ps))) (l .upper) (l .lower)
+                ∙ ap (λ (es : List Entry). headLine n ku kl ++ nodeLines 1 0 es) (l .nodes);
           }
 
   module _ (b : Below 256 row) (r : Routing) (work′ out′ : List ℕ) (c : Routed row ku kl work out r work′ out′) where
@@ -153,3 +168,11 @@ module _ {row : List ℕ} {ku kl : ℕ} {work out : List ℕ} {r : Routing} {wor
   pub routed-listing : length work ≡ 46080 → length out ≡ 386 → {text text′ : List ℕ} {end : ℕ} → Listing (listed r out′) text text′ end
       → Listing (rowText row ku kl) text text′ end
   routed-listing w o = text-listing (routed-text row ku kl work out b r work′ out′ c w o)
+
+-- an accepted row is listed with the kinds and positions of its first placing
+pub accepted-text : (row : List ℕ) (ku kl n : ℕ) → Below 256 row → answer row ku kl ≡ Sheet n
+    → (ps : List ℕ) × IsFirst ku kl (nodes row) ps × (rowText row ku kl ≡ headLine n ku kl ++ nodeLines 1 0 (entries (nodes row) ps))
+unfolding answer rowText
+accepted-text row ku kl n b e =
+    let g = sheet-given row ku kl (replicate (90 * 512) 0) (replicate (size 512) 0) b n e in
+    (g .ps, g .first, ap (λ (q : Routing). listed q (firstSheet row ku kl)) e ∙ g .text)

@@ -1,6 +1,6 @@
 -- Document 01's example of `listrow` and two refusals hold for the definitions: antt computes each text.
 use mathlib.Core.Bool.{Bool, true, false, _&&_}
-use mathlib.Core.List.{List, [], _∷_, _++_}
+use mathlib.Core.List.{List, [], _∷_}
 use Prim.Native.Nat.{ℕ}
 use lib.Dec.{T, eqb}
 use Rattle.rules.specs.declared.Routing.{Routing}

@@ -1,13 +1,14 @@
 -- Bytes that are put one after the other are put as one list, and bytes that are put at the start are written there.
 use mathlib.Core.Path.{_≡_, refl, sym, ap, ap₂, _∙_}
 use mathlib.Core.List.{List, [], _∷_, _++_}
-use Prim.Native.Nat.{ℕ, zero, suc, _+_, _≤_, _<_}
+use Prim.Native.Nat.{ℕ, suc, _+_, _≤_, _<_}
 use native.Mathlib.Nat.{add-zero, zero-add}
 use native.Mathlib.Numerals.{add-one}
 use native.Mathlib.Omega.{arith}
 use lib.ListN.{length, getD, set, take, drop, length-append, length-set}
 use lib.Seq.{sets, length-sets, sets-eq, take-suc, take-all, length-take-le}
 use Rattle.io.specs.Counts.{Counts}
+use Rattle.io.proofs.Counting.{counts}
 use Rattle.rules.specs.Answers.{written}
 use Rattle.listing.specs.Text.{closed}
 use Rattle.listing.specs.Wrote.{Wrote, Listing}
@@ -89,4 +90,4 @@ wrote-listing {new} {text} {text′} {end} w h =
 
 -- the length that is returned counts bytes of the buffer
 pub listing-counts : {new text text′ : List ℕ} {end : ℕ} → Listing new text text′ end → Counts end text′
-listing-counts {text′ = text′} {end = end} l = (l .within, sym (length-take-le end text′ (l .within)))
+listing-counts {text′ = text′} {end = end} l = counts end text′ (l .within)

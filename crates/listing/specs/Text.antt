@@ -1,5 +1,4 @@
 -- Document 01, 'Specimens', on `listrow`: the text of the router's answer on an input, as bytes of ASCII.
-use mathlib.Core.Bool.{Bool, true, false}
 use mathlib.Core.List.{List, [], _∷_, _++_}
 use Prim.Native.Nat.{ℕ, zero, suc, _+_, _*_, _/_, _%_}
 use lib.ListN.{replicate}

@@ -6,7 +6,6 @@ use nodes::list_nodes;
 use put::put_number;
 use put::put_word;
 use rules::Routing;
-ghost use mathlib.Core.Path.{_≡_};
 ghost use Prim.Native.Nat.{_≤_, _<_};
 ghost use lib.ListN.{length};
 ghost use Rattle.io.specs.Counts.{Counts};

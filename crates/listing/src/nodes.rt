@@ -33,7 +33,7 @@ pub fn list_nodes(sheet: &[u8], n: usize, text: &mut [u8], at: usize) -> usize
 
 // Puts the line of a node with these fields, before which so many nets are open, at a place of the text.
 fn list_node(node: usize, kind: u16, above: u16, nets: usize, text: &mut [u8], at: usize) -> usize
-    requires { ⌜ (node ≤ 512) × (above < 16) × (nets < 512) × (at + 32 ≤ length (now text)) ⌝ }
+    requires { ⌜ (node ≤ 512) × (above < 16) × (nets < 512) × (at + 48 ≤ length (now text)) ⌝ }
     ensures { λ r. ⌜ Wrote (now (text .entry)) at (nodeLine node nets (Sheet·entry kind above)) (now (text .exit)) r × (r ≤ at + 16) ⌝ }
 {
     let word = [letter_of(kind)];

@@ -1,5 +1,4 @@
 // Words and numbers put into a text, each with the byte that ends it.
-ghost use mathlib.Core.Path.{_≡_};
 ghost use Prim.Native.Nat.{_+_, _≤_, _<_};
 ghost use lib.ListN.{length};
 ghost use Rattle.listing.specs.Text.{decimal, closed};

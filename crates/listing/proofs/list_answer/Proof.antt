@@ -1,5 +1,4 @@
 -- `listing::list_answer` meets its contract: each answer has its number and place. Assumes nothing.
-use native.Mathlib.Omega.{arith}
 use borrow.Author.Needs.{needs}
 use Rattle.rules.specs.declared.Routing.the-variants.{Sheet, RowLength, Tracks, Lone, WorkShort, SheetShort, Stuck}
 use Rattle.rules.specs.Answers.{routeSaid}

@@ -1,6 +1,6 @@
 -- `listing::nodes::list_node` meets its contract: four fields make the line. Assumes nothing.
-use mathlib.Core.List.{List, [], _∷_}
-use Prim.Native.Nat.{ℕ, _+_}
+use mathlib.Core.List.{[], _∷_}
+use Prim.Native.Nat.{_+_}
 use native.Mathlib.Omega.{arith}
 use borrow.Author.Needs.{needs}
 use Rattle.listing.proofs.Lines.{word-ends, number-ends, wrote-node}
@@ -40,8 +40,8 @@ put-number-requires-3 c κs =
     let g = c .before .before .before .before .before .before .before .before .before .before .before .before .before .before .before .before .before .args in
     let w₁ = c .before .before .before .before .before .before .before .before .before .before .before .before .before .put-number .ensures .0 in
     let w₂ = c .before .before .before .before .before .before .before .before .put-word .ensures in
-    let w₃ = c .before .before .before .before .put-number2 .ensures .0 in
-    omega (arith, number-ends (g .node) 32 (omega arith) w₁, w₁ .kept, word-ends (c .before .before .before .before .before .before .before .before .before .before .before .before .before .before .before .letter-of .result ∷ []) 32 w₂, w₂ .kept, number-ends (g .above + 1) 32 (omega arith) w₃, w₃ .kept)
+    let w₃ = c .before .before .before .before .put-number2 .ensures in
+    omega (arith, number-ends (g .node) 32 (omega arith) w₁, w₁ .kept, word-ends (c .before .before .before .before .before .before .before .before .before .before .before .before .before .before .before .letter-of .result ∷ []) 32 w₂, w₂ .kept, w₃ .1, w₃ .0 .kept)
 
 same-length : tie.Need-same-length
 same-length c = search needs

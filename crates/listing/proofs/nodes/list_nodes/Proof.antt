@@ -1,5 +1,5 @@
 -- `listing::nodes::list_nodes` meets its contract. The loop's invariant: the lines of the first i nodes are put. Assumes nothing.
-use Prim.Native.Nat.{ℕ, _-_}
+use Prim.Native.Nat.{_-_}
 use native.Mathlib.Omega.{arith}
 use borrow.Author.Needs.{needs}
 use Rattle.listing.specs.Text.{openAfter}

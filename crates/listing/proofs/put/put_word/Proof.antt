@@ -1,9 +1,8 @@
 -- `listing::put::put_word` meets its contract. The loop's invariant: the text is the first one with the first i bytes of the word put into it. Assumes nothing.
-use mathlib.Core.Path.{_≡_, refl}
-use Prim.Native.Nat.{_≤_, _-_}
+use Prim.Native.Nat.{_-_}
 use native.Mathlib.Omega.{arith}
 use borrow.Author.Needs.{needs}
-use lib.ListN.{length, take}
+use lib.ListN.{length}
 use Rattle.listing.proofs.Writing.{Words, words-none, words-more, word-closed}
 use Rattle.listing.proofs.put.put_word.Statement.{statement}
 use Rattle.listing.proofs.put.put_word.Tie as tie
