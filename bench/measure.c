@@ -1,4 +1,5 @@
-/* Routes each row of a file, then inspects and reads its sheet, and prints a line for each call: what was called, the row's class and streets, n. */
+/* Routes each row of a file, then inspects, reads and draws its sheet, and prints a line for each call: what was called, the row's class and streets, n, and
+   what the count is shared among: nodes, or records of the film. */
 #include <stdint.h>
 #include <stdio.h>
 #include <stdlib.h>
@@ -7,11 +8,12 @@
 uint64_t measure_route(const uint8_t *row, size_t n, uint8_t ku, uint8_t kl, uint8_t *work, size_t work_size, uint8_t *sheet, size_t sheet_size);
 uint64_t measure_read(const uint8_t *sheet, size_t size, uint8_t *row, size_t row_size);
 uint64_t measure_inspect(const uint8_t *sheet, size_t size);
+uint64_t measure_draw(const uint8_t *sheet, size_t size, uint8_t *film, size_t film_size);
 
 enum { MOST = 512 };
 #define SIZE(n) (2 + (3 * (n) + 3) / 4)
 
-static uint8_t row[MOST], back[MOST], sheet[SIZE(MOST)], work[90 * MOST];
+static uint8_t row[MOST], back[MOST], sheet[SIZE(MOST)], work[90 * MOST], film[5 * 14 * MOST];
 
 /* Called after each call that is counted; callgrind writes its counts when it returns. */
 __attribute__((noinline)) void measure_mark(void) { __asm__ volatile("" ::: "memory"); }
@@ -35,17 +37,21 @@ int main(int argc, char **argv) {
         }
         uint64_t said = measure_route(row, n, ku, kl, work, 90 * n, sheet, sizeof sheet);
         measure_mark();
-        printf("route %s %u/%u %zu\n", class, ku, kl, n);
+        printf("route %s %u/%u %zu %zu\n", class, ku, kl, n, n);
         if (said >> 32 == 6) continue;
         if (said != n) fail("neither accepted nor 6", line);
         said = measure_inspect(sheet, SIZE(n));
         measure_mark();
-        printf("inspect %s %u/%u %zu\n", class, ku, kl, n);
+        printf("inspect %s %u/%u %zu %zu\n", class, ku, kl, n, n);
         if (said != 0) fail("its sheet is refused", line);
         said = measure_read(sheet, SIZE(n), back, sizeof back);
         measure_mark();
-        printf("read %s %u/%u %zu\n", class, ku, kl, n);
+        printf("read %s %u/%u %zu %zu\n", class, ku, kl, n, n);
         if (said != n) fail("its sheet is not read", line);
+        said = measure_draw(sheet, SIZE(n), film, sizeof film);
+        measure_mark();
+        if (said >> 32) fail("its sheet is not drawn", line);
+        printf("draw %s %u/%u %zu %zu\n", class, ku, kl, n, (size_t)said);
     }
     return 0;
 }
