@@ -1,4 +1,4 @@
-// Has the library answer every line of the outside vectors in data/, and prints how many disagree.
+// Has the library answer S1 to S12 and every line of the outside vectors in data/, and prints how many disagree.
 mod ask_drawer;
 mod ask_reader;
 mod ask_router;
@@ -23,6 +23,9 @@ enum Asked {
 const TEXT: usize = 524288;
 
 fn main() {
+    ask(Asked::Router, b"specimens.txt");
+    ask(Asked::Reader, b"specimen-sheets.txt");
+    ask(Asked::Drawer, b"specimen-sheets.txt");
     ask(Asked::Router, b"router.txt");
     ask(Asked::Reader, b"sheets.txt");
     ask(Asked::Drawer, b"sheets.txt");
