@@ -1,6 +1,6 @@
 -- What the moves of a gap ask of the pen and the node, and what they do to wires, columns and film.
 use mathlib.Core.Path.{_≡_}
-use mathlib.Core.Bool.{Bool}
+use mathlib.Core.Bool.{Bool, true, false}
 use mathlib.Core.List.{List}
 use Prim.Native.Nat.{ℕ, suc, _+_, _*_, _≤_, _<_}
 use lib.ListN.{length, set}
@@ -10,6 +10,7 @@ use Rattle.rules.specs.Sheet.{kindIn}
 use Rattle.rules.specs.Film.{target, bent, drawn, Sweep}
 use Rattle.film.specs.declared.moves.Pen.{Pen}
 use Rattle.film.specs.declared.moves.Node.{Node}
+use Rattle.film.specs.declared.wires.Wires.{Wires}
 use Rattle.film.specs.Stamps.{columns, most, laid}
 use Rattle.film.specs.Wires.{listed, wireAt, Sound}
 
@@ -27,6 +28,15 @@ pub record Able (p : Pen) (k : ℕ) : Type 0 where
   pub sound : Sound (p .wires)
   pub across : p .column + k < columns
   pub room : p .drawn + 2 * k < most
+
+-- each of the first k wires has the height that it has to reach
+abbrev pub Reaches : Node → Wires → ℕ → Type 0
+Reaches n w k = (q : ℕ) → q < k → wireAt w q .height ≡ aim n q
+
+-- the answer yes says that every wire has
+abbrev pub Steady : Node → Wires → Bool → Type 0
+Steady n w true = Reaches n w (w .count)
+Steady n w false = Unit {0}
 
 -- the wire with q above it was moved to height h at the pen's column, where the test passed
 pub record Stepped (b : Bool) (h q : ℕ) (p : Pen) (film : List ℕ) (r : Pen) (after : List ℕ) : Type 0 where

@@ -8,8 +8,8 @@ ghost use mathlib.Core.Bool.{true};
 ghost use Prim.Native.Nat.{suc, _+_, _-_, _≤_, _<_};
 ghost use Rattle.rules.specs.Film.{climb as climbing, sink as sinking, gap};
 ghost use Rattle.film.specs.Heights.{high, Level, Reached};
-ghost use Rattle.film.specs.Wires.{listed};
-ghost use Rattle.film.specs.Moves.{aim, Fitting, Able, Stepped, Swept};
+ghost use Rattle.film.specs.Wires.{listed, Sound};
+ghost use Rattle.film.specs.Moves.{aim, Fitting, Able, Stepped, Steady, Swept};
 
 // The film so far: the open wires, the next free column, and the number of records drawn.
 pub struct Pen {
@@ -30,8 +30,34 @@ pub fn cross(film: &mut [u8], pen: Pen, node: Node) -> Pen
     requires { ⌜ Able pen (pen .wires .count + pen .wires .count) × Fitting node (pen .wires .count) × (1 ≤ pen .column) ⌝ }
     ensures { λ r. ⌜ Swept (gap (aim node) (pen .column - 1) (listed (pen .wires))) (pen .wires .count + pen .wires .count) pen (now (film .entry)) r (now (film .exit)) ⌝ }
 {
+    let wires = pen.wires;
+    if is_steady(wires, node) {
+        return pen;
+    }
     let up = climb(film, pen, node);
     sink(film, up, node)
+}
+
+// Whether every wire has the level already that it has at a node: most gaps are so, and are passed over at once.
+fn is_steady(wires: Wires, node: Node) -> bool
+    requires { ⌜ Sound wires × Fitting node (wires .count) ⌝ }
+    ensures { λ r. ⌜ Steady node wires r ⌝ }
+{
+    let levels = wires.levels;
+    let count = wires.count;
+    let mut q = 0;
+    while q < count {
+        let old = levels[q];
+        let level = target(node, q);
+        if rises(old, level) {
+            return false;
+        }
+        if rises(level, old) {
+            return false;
+        }
+        q += 1;
+    }
+    true
 }
 
 // Moves the wires that go up, topmost first.
