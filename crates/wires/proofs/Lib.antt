@@ -12,3 +12,4 @@ pub mod Cover
 pub mod Stretches
 pub mod Verticals
 pub mod ByRule
+pub mod Few
