@@ -1,0 +1,1 @@
+-- No impostor meets its contract.

@@ -1,0 +1,3 @@
+pub mod Stated
+pub mod Reorder
+pub mod Impostors

@@ -1,0 +1,1 @@
+-- Lists that differ in their order.

@@ -1,0 +1,68 @@
+-- Document 01's table of causes, in the order in which each entry point tests them.
+use mathlib.Core.Bool.{Bool, not, _||_}
+use mathlib.Core.List.{List, [], _∷_, _++_}
+use Prim.Native.Nat.{ℕ, suc, _+_, _*_}
+use lib.ListN.{length}
+use lib.Dec.{leb, ltb, eqb}
+use Rattle.rules.specs.Basic.{pick, isNone}
+use Rattle.rules.specs.Row.{nodes}
+use Rattle.rules.specs.Street.{counted, limits, met, first, failing}
+use Rattle.rules.specs.Sheet.{takes, kindIn, size, Entry, entry, upperOf, lowerOf, countOf, entriesOf, paddingOf}
+use Rattle.rules.specs.Film.{records}
+use Rattle.rules.specs.Judgement.{wrongCount, left, leftOpen}
+use Rattle.rules.specs.Answers.{Said, says, firstLone}
+
+-- a cause: its number, the place that goes with it, whether it holds
+pub data Cause : Type 0 where
+  cause : (number place : ℕ) → (holds : Bool) → Cause
+
+-- the number and place of the first cause that holds, or those of acceptance
+unfoldable pub firstCause : List Cause → Said → Said
+firstCause [] fine = fine
+firstCause (cause number place holds ∷ cs) fine = let r = firstCause cs fine in pick holds (says number place) r
+
+-- the router's, 1 to 6
+unfoldable pub routerCauses : (row : List ℕ) (ku kl : ℕ) (work out : List ℕ) → List Cause
+routerCauses row ku kl work out =
+    let n = length row in
+    cause 1 0 (wrongCount n)
+    ∷ cause 2 0 (not (takes ku kl))
+    ∷ cause 3 (suc (firstLone row)) (ltb (firstLone row) n)
+    ∷ cause 4 0 (ltb (length work) (90 * n))
+    ∷ cause 5 0 (ltb (length out) (size n))
+    ∷ cause 6 (suc (failing ku kl (nodes row))) (isNone (first ku kl (nodes row)))
+    ∷ []
+
+-- of a sheet's head, 11 to 13
+unfoldable pub headCauses : (s : List ℕ) → List Cause
+headCauses s =
+    cause 11 0 (ltb (length s) 2 || wrongCount (countOf s))
+    ∷ cause 12 0 (not (takes (upperOf s) (lowerOf s)))
+    ∷ cause 13 0 (not (eqb (length s) (size (countOf s))))
+    ∷ []
+
+-- of its nodes from i on, from 1, with b nets open before node i: 15, 16, 17, leftmost node first
+unfoldable pub nodeCauses : (ku kl i b : ℕ) → List Entry → List Cause
+nodeCauses ku kl i b [] = []
+nodeCauses ku kl i b (entry f a ∷ es) =
+    let c = counted (kindIn f) b in
+    cause 15 i (eqb f 3)
+    ∷ cause 16 i (leb c a)
+    ∷ cause 17 i (not (met (limits ku kl (suc a) c)))
+    ∷ nodeCauses ku kl (suc i) (left (kindIn f) b) es
+
+-- of its end, 18 and 19
+unfoldable pub endCauses : (s : List ℕ) → List Cause
+endCauses s = cause 18 (countOf s) (not (eqb (leftOpen 0 (entriesOf s)) 0)) ∷ cause 19 0 (not (eqb (paddingOf s) 0)) ∷ []
+
+-- of its nodes and its end
+unfoldable pub bodyCauses : (s : List ℕ) → List Cause
+bodyCauses s = nodeCauses (upperOf s) (lowerOf s) 1 0 (entriesOf s) ++ endCauses s
+
+-- the reader's, 11 to 19
+unfoldable pub readerCauses : (s row : List ℕ) → List Cause
+readerCauses s row = headCauses s ++ (cause 14 0 (ltb (length row) (countOf s)) ∷ bodyCauses s)
+
+-- the drawer's: the reader's without 14, then 21
+unfoldable pub drawerCauses : (s film : List ℕ) → List Cause
+drawerCauses s film = headCauses s ++ (bodyCauses s ++ (cause 21 0 (ltb (length film) (5 * length (records 16 s))) ∷ []))
