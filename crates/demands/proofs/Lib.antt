@@ -1,3 +1,5 @@
 pub mod Stated
 pub mod Reorder
-pub mod Impostors
+pub mod Demand2
+pub mod Demand3
+pub mod EndToEnd

@@ -1,1 +1,0 @@
--- No impostor meets its contract.
