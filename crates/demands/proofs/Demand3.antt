@@ -3,7 +3,7 @@ use mathlib.Core.Path.{_≡_, refl, sym, ap, _∙_}
 use mathlib.Core.Bool.{Bool, true, false, not}
 use mathlib.Core.List.{List, [], _++_}
 use mathlib.Core.Logic.{_↔_}
-use mathlib.Core.Option.{Option, none, some}
+use mathlib.Core.Option.{Option, none}
 use Prim.Native.Nat.{ℕ, suc, _*_}
 use native.Mathlib.Omega.{arith}
 use lib.ListN.{length, take, drop}
@@ -14,10 +14,9 @@ use Rattle.rules.specs.declared.Routing.the-variants.{Sheet, Stuck, RowLength, 
 use Rattle.rules.specs.Basic.{keep, orElse, settle}
 use Rattle.rules.specs.Row.{nodes}
 use Rattle.rules.specs.Street.{Placing, IsFirst, first}
-use Rattle.rules.specs.Sheet.{takes, size, sheet, Placed}
+use Rattle.rules.specs.Sheet.{takes, size, sheet}
 use Rattle.rules.specs.Judgement.{wrongCount}
 use Rattle.rules.specs.Answers.{written, firstLone, refusal, outcome, routing, firstSheet, sheetAfter}
-use Rattle.rules.proofs.SheetFields.{LaidOut}
 use Rattle.rules.proofs.Accepted.{length-nodes, placed-laid, length-entries}
 use Rattle.rules.proofs.Demand3.{Answered, placed, stuck, answered, first-placed}
 use Rattle.router.proofs.Demand.{sheet-when-placed, six-when-stuck, first-placing-bytes, sheets-equal}

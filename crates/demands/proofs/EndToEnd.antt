@@ -3,7 +3,7 @@ use mathlib.Core.Path.{_≡_, sym, ap, _∙_, subst}
 use mathlib.Core.Bool.{true}
 use mathlib.Core.List.{List, List·Memᴰ}
 use mathlib.Core.Logic.{_↔_}
-use mathlib.Core.Option.{none, Option·map}
+use mathlib.Core.Option.{none}
 use Prim.Native.Nat.{ℕ, _*_, _≤_, _<_}
 use native.Mathlib.Omega.{arith}
 use lib.ListN.{length, getD, take}
@@ -11,7 +11,6 @@ use lib.Dec.{ltb}
 use borrow.Author.Tests.{eqb-true, eq-eqb, le-ltb}
 use Rattle.rules.specs.declared.Routing.the-variants.{Sheet}
 use Rattle.rules.specs.declared.Reading.the-variants.{Row}
-use Rattle.rules.specs.declared.Drawing.{Drawing}
 use Rattle.rules.specs.declared.Drawing.the-variants.{Film}
 use Rattle.rules.specs.Basic.{keep, orElse, settle}
 use Rattle.rules.specs.Row.{joined, SamePins}
@@ -43,15 +42,14 @@ module _ {pitch ku kl : ℕ} {row : List ℕ} {rs : List Rec} (rules : WireRules
   pub linked-joined : (i j : ℕ) → i < length row → j < length row
       → joined row i j ≡ true ↔ ((net : ℕ) × Linked net rs (pitch * i) axis (pitch * j) axis)
   unfolding joined
-  linked-joined i j h k =
-      (
-        λ e. (getD row i 0, rules .joins i j h k (eqb-true (getD row i 0) (getD row j 0) e)),
-        λ l.
-          let a = begins (l .1) in
-          let b = ends (l .1) in
-          eq-eqb (getD row i 0) (getD row j 0)
-          (sym (rules .pins (a .0) i (a .1) h (a .3)) ∙ a .2 ∙ sym (b .2) ∙ rules .pins (b .0) j (b .1) k (b .3)),
-      )
+  linked-joined i j h k = (
+    λ e. (getD row i 0, rules .joins i j h k (eqb-true (getD row i 0) (getD row j 0) e)),
+    λ l.
+        let a = begins (l .1) in
+        let b = ends (l .1) in
+        eq-eqb (getD row i 0) (getD row j 0)
+        (sym (rules .pins (a .0) i (a .1) h (a .3)) ∙ a .2 ∙ sym (b .2) ∙ rules .pins (b .0) j (b .1) k (b .3)),
+  )
 
 -- a row that the router took
 module _ {row : List ℕ} {ku kl : ℕ} (c : RouterCall row ku kl) (got : c .answer ≡ Sheet (length row)) where
@@ -85,15 +83,15 @@ module _ {row : List ℕ} {ku kl : ℕ} (c : RouterCall row ku kl) (got : c .ans
 
   joins : (d : DrawerCall (sheetOf c)) (k : ℕ) → d .answer ≡ Film k
       → (rs : List Rec)
-        × (d .film′ ≡ written (filmBytes rs) (d .film))
-        × ((i j : ℕ) → i < length row → j < length row → joined row i j ≡ true ↔ ((net : ℕ) × Linked net rs (16 * i) axis (16 * j) axis))
+      × (d .film′ ≡ written (filmBytes rs) (d .film))
+      × ((i j : ℕ) → i < length row → j < length row → joined row i j ≡ true ↔ ((net : ℕ) × Linked net rs (16 * i) axis (16 * j) axis))
   joins d k e =
       let f = film-obeys d k e in (
         f .rs,
         f .bytes,
         λ i j h g.
-          let l = linked-joined (f .rules) i j (omega (arith, back .1 .count, h)) (omega (arith, back .1 .count, g)) in
-          let p = back .1 .joins i j h g in (λ a. l .0 (sym p ∙ a), λ a. p ∙ l .1 a),
+            let l = linked-joined (f .rules) i j (omega (arith, back .1 .count, h)) (omega (arith, back .1 .count, g)) in
+            let p = back .1 .joins i j h g in (λ a. l .0 (sym p ∙ a), λ a. p ∙ l .1 a),
       )
 
 filmed : {s : List ℕ} (c : DrawerCall s) (k : ℕ) → c .answer ≡ Film k → Filmed (records 16 s) (c .film) (c .film′)

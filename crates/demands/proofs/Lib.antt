@@ -3,3 +3,5 @@ pub mod Reorder
 pub mod Demand2
 pub mod Demand3
 pub mod EndToEnd
+pub mod Impostors
+pub mod Filling

@@ -1,6 +1,6 @@
 -- Demand 1: every call says the number and place of the first cause that holds, and leaves its buffers in the condition that goes with that.
 use mathlib.Core.Path.{_≡_, refl, sym, ap, _∙_}
-use mathlib.Core.Bool.{Bool, true, false, not, _||_}
+use mathlib.Core.Bool.{Bool, true, false, not}
 use mathlib.Core.List.{List, [], _∷_, _++_, append-assoc, append-nil}
 use mathlib.Core.Logic.{_≢_, _⊎_, inl, inr}
 use mathlib.Core.Option.{Option, none, some, Option·map}
@@ -11,20 +11,20 @@ use lib.Dec.{leb, ltb, eqb}
 use Rattle.rules.specs.declared.Limits.{Limits}
 use Rattle.rules.specs.declared.Limits.the-variants.{Met, Upper, Lower, Sum}
 use Rattle.rules.specs.declared.Fault.{Fault}
-use Rattle.rules.specs.declared.Fault.the-variants.{Head, Tracks, Length, Kind as NoKind, Position, Street, Open, Padding}
+use Rattle.rules.specs.declared.Fault.the-variants.{Head, Tracks, Length, Kind as NoKind, Position, Open, Padding}
 use Rattle.rules.specs.declared.Routing.{Routing}
 use Rattle.rules.specs.declared.Reading.{Reading}
 use Rattle.rules.specs.declared.Drawing.{Drawing}
 use Rattle.rules.specs.Basic.{pick, keep, orElse, settle, isNone}
 use Rattle.rules.specs.Row.{nodes}
 use Rattle.rules.specs.Street.{counted, limits, met, first, failing}
-use Rattle.rules.specs.Sheet.{takes, kindIn, size, Entry, entry, upperOf, lowerOf, countOf, entriesOf, paddingOf, rowOf}
+use Rattle.rules.specs.Sheet.{takes, kindIn, size, Entry, entry, upperOf, lowerOf, countOf, entriesOf, rowOf}
 use Rattle.rules.specs.Film.{records}
-use Rattle.rules.specs.Judgement.{wrongCount, head, room, broken, faultAt, left, scan, leftOpen, tail, middle, judge}
+use Rattle.rules.specs.Judgement.{wrongCount, head, room, broken, faultAt, left, scan, tail, middle, judge}
 use Rattle.rules.specs.Answers.{Said, says, faultSaid, limitNumber, routeSaid, readSaid, drawSaid, firstLone, refusal, outcome, routing, written, firstSheet, cleared, workAfter, sheetAfter, reading, rowAfter, drawing, FilmAfter}
 use Rattle.rules.proofs.Accepted.{length-nodes}
 use Rattle.demands.specs.Causes.{Cause, cause, firstCause, routerCauses, headCauses, nodeCauses, endCauses, bodyCauses, readerCauses, drawerCauses}
-use Rattle.demands.specs.Demands.{RouterCall, ReaderCall, DrawerCall, RouterStated, ReaderStated, DrawerStated, Filmed, Demand1}
+use Rattle.demands.specs.Demands.{Filmed, Demand1}
 
 -- what is said of an answer that may be there, or else r
 module _ {A : Type 0} (said : A → Said) where

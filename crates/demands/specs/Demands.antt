@@ -135,8 +135,8 @@ pub record EndToEnd : Type 0 where
   pub joins : {row : List ℕ} {ku kl : ℕ} (c : RouterCall row ku kl) → c .answer ≡ Sheet (length row) → (d : DrawerCall (sheetOf c))
       → (k : ℕ) → d .answer ≡ Film k
       → (rs : List Rec)
-        × (d .film′ ≡ written (filmBytes rs) (d .film))
-        × ((i j : ℕ) → i < length row → j < length row → joined row i j ≡ true ↔ ((net : ℕ) × Linked net rs (16 * i) axis (16 * j) axis))
+      × (d .film′ ≡ written (filmBytes rs) (d .film))
+      × ((i j : ℕ) → i < length row → j < length row → joined row i j ≡ true ↔ ((net : ℕ) × Linked net rs (16 * i) axis (16 * j) axis))
   -- the same pins under the same tracks get the same answer, the same sheet, and films of the same records
   pub same-answer : {row row₂ : List ℕ} {ku kl : ℕ} (c : RouterCall row ku kl) (c₂ : RouterCall row₂ ku kl) → SamePins row row₂
       → Checked row ku kl (c .work) (c .out) → Checked row₂ ku kl (c₂ .work) (c₂ .out) → c .answer ≡ c₂ .answer

@@ -1,6 +1,6 @@
 -- Functions in the entry points' places, when one meets its contract, and document 01's impostors: none of them does.
 use mathlib.Core.Path.{_≡_}
-use mathlib.Core.Bool.{Bool, true, false}
+use mathlib.Core.Bool.{Bool}
 use mathlib.Core.List.{List}
 use mathlib.Core.Logic.{_≢_}
 use mathlib.Core.Option.{none}
