@@ -14,6 +14,8 @@
 //! # Ok::<(), niraflue::Said>(())
 //! ```
 
+pub mod reference;
+
 use std::error::Error;
 use std::fmt;
 

@@ -1,0 +1,104 @@
+//! Document 01 written a second time, in plain Rust that shares nothing with the proved library, so
+//! that every byte of every buffer can be compared.
+//!
+//! The four functions have the arguments and answers of the library's own. Speed is no aim here.
+
+mod bits;
+mod film;
+mod router;
+mod sheet;
+
+use crate::Said;
+
+/// The track counts of the two streets.
+#[derive(Clone, Copy, Debug)]
+struct Streets {
+    upper: usize,
+    lower: usize,
+}
+
+impl Streets {
+    /// The three limits at a node whose net stands at position `p`, from 1, of `b`.
+    fn allow(self, p: usize, b: usize) -> bool {
+        p - 1 <= self.upper && b - p <= self.lower && b <= self.upper + self.lower
+    }
+}
+
+/// A node's part in its net.
+#[derive(Clone, Copy, Debug, PartialEq, Eq)]
+enum Kind {
+    Begin,
+    Middle,
+    End,
+}
+
+fn accepted(place: usize) -> Said {
+    refused(0, place)
+}
+
+fn refused(number: u32, place: usize) -> Said {
+    Said {
+        number,
+        place: place as u32,
+    }
+}
+
+/// As [`crate::route`].
+pub fn route(row: &[u8], ku: u8, kl: u8, work: &mut [u8], sheet: &mut [u8]) -> Said {
+    if let Some(refusal) = router::refusal(row, ku, kl, work.len(), sheet.len()) {
+        return refusal;
+    }
+    let streets = Streets {
+        upper: ku.into(),
+        lower: kl.into(),
+    };
+    work[..router::work_needed(row.len())].fill(0);
+    match router::first_placing(row, streets) {
+        Ok(nodes) => {
+            let bytes = sheet::packed(streets, &nodes);
+            sheet[..bytes.len()].copy_from_slice(&bytes);
+            accepted(row.len())
+        }
+        Err(node) => refused(6, node),
+    }
+}
+
+/// As [`crate::read`].
+pub fn read(sheet: &[u8], row: &mut [u8]) -> Said {
+    match sheet::inspected(sheet, Some(row.len())) {
+        Ok(placing) => {
+            let labels = placing.labels();
+            row[..labels.len()].copy_from_slice(&labels);
+            accepted(labels.len())
+        }
+        Err(refusal) => refusal,
+    }
+}
+
+/// As [`crate::agrees`].
+pub fn agrees(row: &[u8], sheet: &[u8]) -> bool {
+    match sheet::inspected(sheet, None) {
+        Ok(placing) => join_the_same_pins(row, &placing.labels()),
+        Err(_) => false,
+    }
+}
+
+fn join_the_same_pins(a: &[u8], b: &[u8]) -> bool {
+    let n = a.len();
+    n == b.len() && (0..n).all(|i| (0..i).all(|j| (a[i] == a[j]) == (b[i] == b[j])))
+}
+
+/// As [`crate::draw`], with the records in an order of its own.
+pub fn draw(sheet: &[u8], film: &mut [u8]) -> Said {
+    let placing = match sheet::inspected(sheet, None) {
+        Ok(placing) => placing,
+        Err(refusal) => return refusal,
+    };
+    let records = film::records(&placing);
+    let bytes = records.concat();
+    if film.len() < bytes.len() {
+        return refused(21, 0);
+    }
+    film[..bytes.len()].copy_from_slice(&bytes);
+    accepted(records.len())
+}
