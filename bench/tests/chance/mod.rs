@@ -1,0 +1,293 @@
+//! Rows, legal sheets and damage by chance.
+
+use crate::common::Random;
+use niraflue::sheet_size;
+use std::iter::repeat_n;
+
+/// A node count: mostly short, sometimes at the limits or beyond.
+pub fn any_length(random: &mut Random) -> usize {
+    match random.below(24) {
+        0 => random.below(3),
+        1 => 505 + random.below(12),
+        2 => 200 + random.below(401),
+        3..=5 => 30 + random.below(170),
+        _ => 2 + random.below(28),
+    }
+}
+
+/// Track counts under which some row has a placing.
+pub fn legal_streets(random: &mut Random) -> (u8, u8) {
+    let both = 1 + random.below(15);
+    ((both / 4) as u8, (both % 4) as u8)
+}
+
+/// Track counts, mostly such that some row has a placing.
+pub fn any_streets(random: &mut Random) -> (u8, u8) {
+    let (ku, kl) = legal_streets(random);
+    match random.below(48) {
+        0 => (4, kl),
+        1 => (ku, 4),
+        2 => (255, kl),
+        3 => (ku, random.below(256) as u8),
+        4 => (0, 0),
+        _ => (ku, kl),
+    }
+}
+
+/// The same nets under other labels.
+pub fn renamed(random: &mut Random, row: &[u8]) -> Vec<u8> {
+    let mut names: Vec<u8> = (0..=255).collect();
+    for at in (1..names.len()).rev() {
+        names.swap(at, random.below(at + 1));
+    }
+    row.iter().map(|&label| names[usize::from(label)]).collect()
+}
+
+/// Rows of every sort: of lone labels, of nets woven by chance, with a placing under these streets,
+/// and nearly so, by a few changes or for want of one track.
+pub fn any_row(random: &mut Random, (ku, kl): (u8, u8)) -> Vec<u8> {
+    let n = any_length(random);
+    let streets = match (ku.min(3), kl.min(3)) {
+        (0, 0) => (1, 1),
+        taken => taken,
+    };
+    let row = match random.below(8) {
+        0 => {
+            let labels = 1 + random.below(n / 2 + 1);
+            (0..n).map(|_| random.below(labels) as u8).collect()
+        }
+        1..=2 => {
+            let most = 1 + random.below(7);
+            woven(random, n, most)
+        }
+        3..=4 => legal(random, n, streets).0,
+        5 => legal(random, n, (streets.0, streets.1 + 1)).0,
+        _ => {
+            let row = legal(random, n, streets).0;
+            changed(random, &row)
+        }
+    };
+    renamed(random, &row)
+}
+
+/// A row with one or a few small changes, which may leave it joining the same pins.
+pub fn changed(random: &mut Random, row: &[u8]) -> Vec<u8> {
+    let mut row = row.to_vec();
+    let n = row.len();
+    if n < 2 {
+        return row;
+    }
+    match random.below(8) {
+        0 => row[random.below(n)] = row[random.below(n)],
+        1 => row[random.below(n)] = random.below(256) as u8,
+        2 => row.truncate(n - 1),
+        3 => row.push(row[random.below(n)]),
+        _ => swap_neighbours(random, &mut row),
+    }
+    row
+}
+
+fn swap_neighbours(random: &mut Random, row: &mut [u8]) {
+    for _ in 0..=random.below(4) {
+        let at = random.below(row.len() - 1);
+        row.swap(at, at + 1);
+    }
+}
+
+/// A row of at least a hundred nodes that has a placing up to its last thirty nodes, if its streets
+/// are legal, and often none beyond.
+pub fn late_row(random: &mut Random, streets: (u8, u8)) -> Vec<u8> {
+    let n = 100 + random.below(413);
+    let mut row = legal(random, n, streets).0;
+    for _ in 0..4 {
+        swap_neighbours(random, &mut row[n - 30..]);
+    }
+    row
+}
+
+#[derive(Clone, Copy, PartialEq)]
+enum Kind {
+    Begin,
+    Middle,
+    End,
+}
+
+/// Kinds by chance of `n` nodes with at most `most` nets open at once, all of which end; for one
+/// node, which cannot be a net, a begin.
+fn kinds(random: &mut Random, n: usize, most: usize) -> Vec<Kind> {
+    let weights = [0; 3].map(|_| 1 + random.below(8));
+    let mut open = 0;
+    (0..n)
+        .rev()
+        .map(|left| {
+            let kind = next_kind(random, weights, open, most, left);
+            open = match kind {
+                Kind::Begin => open + 1,
+                Kind::Middle => open,
+                Kind::End => open - 1,
+            };
+            kind
+        })
+        .collect()
+}
+
+/// A kind after which `left` more nodes can end every net.
+fn next_kind(
+    random: &mut Random,
+    weights: [usize; 3],
+    open: usize,
+    most: usize,
+    left: usize,
+) -> Kind {
+    let can_end = |nets: usize| nets <= left && (nets, left) != (0, 1);
+    let possible = [
+        (Kind::Begin, open < most && can_end(open + 1)),
+        (Kind::Middle, open > 0 && can_end(open)),
+        (Kind::End, open > 0 && can_end(open - 1)),
+    ];
+    let choices: Vec<Kind> = possible
+        .into_iter()
+        .zip(weights)
+        .filter(|((_, can), _)| *can)
+        .flat_map(|((kind, _), weight)| repeat_n(kind, weight))
+        .collect();
+    match choices.len() {
+        0 => Kind::Begin,
+        count => choices[random.below(count)],
+    }
+}
+
+/// A row whose nets are touched in any order, so that it often has no placing.
+fn woven(random: &mut Random, n: usize, most: usize) -> Vec<u8> {
+    let mut order = Order::default();
+    kinds(random, n, most)
+        .into_iter()
+        .map(|kind| {
+            let b = order.count_at(kind);
+            order.touch(kind, 1 + random.below(b))
+        })
+        .collect()
+}
+
+/// A row and the sheet of some legal placing of it under these streets, which may not be its first.
+pub fn legal(random: &mut Random, n: usize, (ku, kl): (u8, u8)) -> (Vec<u8>, Vec<u8>) {
+    let (upper, lower) = (usize::from(ku), usize::from(kl));
+    let mut fields = vec![(upper, 4), (lower, 2), (n, 10)];
+    let mut order = Order::default();
+    let most = upper + lower - random.below((upper + lower).min(3));
+    let row = kinds(random, n, most)
+        .into_iter()
+        .map(|kind| {
+            let b = order.count_at(kind);
+            let (lowest, highest) = (b.saturating_sub(lower).max(1), b.min(upper + 1));
+            let p = lowest + random.below(highest - lowest + 1);
+            fields.extend([(kind as usize, 2), (p - 1, 4)]);
+            order.touch(kind, p)
+        })
+        .collect();
+    (row, packed(&fields))
+}
+
+/// The open nets from the top, labelled 0, 1, 2 in the order of their first nodes.
+#[derive(Default)]
+struct Order {
+    open: Vec<u8>,
+    begun: u8,
+}
+
+impl Order {
+    fn count_at(&self, kind: Kind) -> usize {
+        self.open.len() + usize::from(kind == Kind::Begin)
+    }
+
+    /// The label at position `p` of a node.
+    fn touch(&mut self, kind: Kind, p: usize) -> u8 {
+        if kind == Kind::Begin {
+            self.open.insert(p - 1, self.begun);
+            // Only rows that are too long for the router have more nets than labels.
+            self.begun = self.begun.wrapping_add(1);
+        }
+        let label = self.open[p - 1];
+        if kind == Kind::End {
+            self.open.remove(p - 1);
+        }
+        label
+    }
+}
+
+fn packed(fields: &[(usize, usize)]) -> Vec<u8> {
+    let width: usize = fields.iter().map(|field| field.1).sum();
+    let mut bytes = vec![0; width.div_ceil(8)];
+    let mut start = 0;
+    for &(value, width) in fields {
+        set(&mut bytes, start, width, value);
+        start += width;
+    }
+    bytes
+}
+
+/// Puts `value` into the field of `width` bits that starts `start` bits into `bytes`.
+fn set(bytes: &mut [u8], start: usize, width: usize, value: usize) {
+    for (place, at) in (start..start + width).rev().enumerate() {
+        let mask = 0x80 >> (at % 8);
+        bytes[at / 8] &= !mask;
+        if value >> place & 1 == 1 {
+            bytes[at / 8] |= mask;
+        }
+    }
+}
+
+/// A legal sheet after one damage, which may leave it legal.
+pub fn damaged(random: &mut Random, sheet: &[u8]) -> Vec<u8> {
+    let mut sheet = sheet.to_vec();
+    let length = sheet.len();
+    match random.below(9) {
+        0 => sheet[random.below(length)] ^= 1 << random.below(8),
+        1 => sheet[random.below(length)] = random.below(256) as u8,
+        2 => sheet.truncate(random.below(length)),
+        3 => {
+            let more = 1 + random.below(4);
+            sheet.extend(random.bytes(more));
+        }
+        4 => {
+            let length = random.below(60);
+            sheet = random.bytes(length);
+        }
+        5 => {
+            let body = random.bytes(length - 2);
+            sheet[2..].copy_from_slice(&body);
+        }
+        6 => damage_head(random, &mut sheet),
+        _ => damage_nodes(random, &mut sheet),
+    }
+    sheet
+}
+
+/// Other tracks, or a node count at an edge, with the length that fits it or not.
+fn damage_head(random: &mut Random, sheet: &mut Vec<u8>) {
+    match random.below(4) {
+        0 => set(sheet, 0, 4, 4 + random.below(12)),
+        1 => set(sheet, 0, 6, random.below(16)),
+        _ => {
+            let n = [0, 1, 2, 3, 511, 512, 513, 1023][random.below(8)];
+            set(sheet, 6, 10, n);
+            if random.below(4) > 0 {
+                sheet.resize(sheet_size(n), 0);
+            }
+        }
+    }
+}
+
+/// Another kind or position at a node, an end that is none, or bits in the padding.
+fn damage_nodes(random: &mut Random, sheet: &mut [u8]) {
+    let n = (8 * sheet.len() - 16) / 6;
+    let start = 16 + 6 * random.below(n);
+    let end = 16 + 6 * n;
+    match random.below(5) {
+        0 => set(sheet, start, 2, random.below(4)),
+        1 => set(sheet, start + 2, 4, random.below(6)),
+        2 => set(sheet, start + 2, 4, random.below(16)),
+        3 => set(sheet, end - 6, 2, 1),
+        _ => set(sheet, end, 8 * sheet.len() - end, random.below(64)),
+    }
+}
