@@ -3,6 +3,7 @@
 
 mod chance;
 mod common;
+mod wires;
 
 use chance::{any_length, any_row, any_streets, damaged, late_row, legal, legal_streets, renamed};
 use common::{agrees, draw, draw_at_all_lengths, hex, read, route, said, Random};
@@ -107,30 +108,19 @@ fn legal_sheets_are_read_and_drawn() {
         let n = any_length(&mut random).clamp(2, 512);
         let streets = legal_streets(&mut random);
         let (row, sheet) = legal(&mut random, n, streets);
-        assert_eq!(
-            read(&mut random, &sheet, n),
-            (said(0, n), row),
-            "{}",
-            hex(&sheet)
-        );
-        assert_eq!(
-            read(&mut random, &sheet, n - 1).0,
-            said(14, 0),
-            "{}",
-            hex(&sheet)
-        );
+        let case = hex(&sheet);
+        let exact = read(&mut random, &sheet, n);
+        assert_eq!(exact, (said(0, n), row.clone()), "{case}");
+        let short = read(&mut random, &sheet, n - 1);
+        assert_eq!(short.0, said(14, 0), "{case}");
         let room = any_room(&mut random, n);
         reader.count(read(&mut random, &sheet, room).0);
-        let (answer, drawn) = draw_at_all_lengths(&mut random, &sheet);
-        assert!(answer.accepted(), "{} for {}", answer, hex(&sheet));
-        let exact = RECORD_SIZE * drawn.len();
-        assert!(
-            exact <= film_bound(n),
-            "{} records for {}",
-            drawn.len(),
-            hex(&sheet)
-        );
-        let room = any_room(&mut random, exact);
+        let (answer, film) = draw_at_all_lengths(&mut random, &sheet);
+        assert!(answer.accepted(), "{answer} for {case}");
+        let size = RECORD_SIZE * film.len();
+        assert!(size <= film_bound(n), "{answer} for {case}");
+        wires::assert_obeyed(&row, streets, &film);
+        let room = any_room(&mut random, size);
         drawer.count(draw(&mut random, &sheet, room).0);
     }
     println!("legal sheets: read {reader:?}, drawn {drawer:?}");
