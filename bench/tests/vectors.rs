@@ -1,5 +1,5 @@
 //! The outside vectors, which come from an implementation of document 01 that shares no text with
-//! this repository, answered by the library and by the reference.
+//! this repository, and the rows to measure on, answered by the library and by the reference.
 
 mod common;
 
@@ -7,6 +7,7 @@ use common::{agrees, draw, draw_at_all_lengths, hex, read, records, route, said,
 use niraflue::{film_of, routed, row_of, sheet_size, work_size, Said};
 
 const ROUTER: &str = include_str!("../data/router.txt");
+const ROWS: &str = include_str!("../rows.txt");
 const SHEETS: &str = include_str!("../data/sheets.txt");
 
 fn from_hex(text: &str) -> Vec<u8> {
@@ -83,6 +84,22 @@ fn sheets_get_the_rows_and_films_of_the_outside_vectors() {
         assert_eq!(drawn, given(to_film), "{line}");
     }
     assert_eq!(SHEETS.lines().count(), 533);
+}
+
+#[test]
+fn rows_to_measure_on_are_routed_alike() {
+    let mut random = Random::new(4);
+    let mut answers = [0; 2];
+    for line in ROWS.lines() {
+        let [_, n, ku, kl, row] = fields(line);
+        let (row, n) = (from_hex(row), number(n));
+        let streets = (number(ku), number(kl));
+        let (answer, _) = route(&mut random, &row, streets, work_size(n), sheet_size(n));
+        assert!([0, 6].contains(&answer.number), "{answer} for {line}");
+        answers[usize::from(answer.accepted())] += 1;
+    }
+    let [refused, accepted] = answers;
+    assert!(refused >= 40 && accepted >= 300, "{answers:?}");
 }
 
 /// The first sheets of the papers' worked net lists whose streets are at most 3.
