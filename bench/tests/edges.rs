@@ -175,7 +175,7 @@ fn each_buffer_is_exact_or_a_byte_short() {
 }
 
 #[test]
-fn sheets_state_2_to_512_nodes_and_at_most_3_upper_tracks() {
+fn sheets_state_2_to_512_nodes() {
     let mut random = Random::new(16);
     for n in [0usize, 1, 513, 1023] {
         let mut sheet = vec![0; sheet_size(n)];
@@ -184,6 +184,11 @@ fn sheets_state_2_to_512_nodes_and_at_most_3_upper_tracks() {
         assert_eq!(read(&mut random, &sheet, 600).0, said(11, 0), "{n}");
         assert_eq!(draw(&mut random, &sheet, 600).0, said(11, 0), "{n}");
     }
+}
+
+#[test]
+fn sheets_state_at_most_3_upper_tracks() {
+    let mut random = Random::new(17);
     for (ku, of_reader, of_drawer) in [
         (3, said(0, 2), said(0, 3)),
         (4, said(12, 0), said(12, 0)),
@@ -193,10 +198,15 @@ fn sheets_state_2_to_512_nodes_and_at_most_3_upper_tracks() {
         assert_eq!(read(&mut random, &sheet, 2).0, of_reader, "{ku}");
         assert_eq!(draw(&mut random, &sheet, 15).0, of_drawer, "{ku}");
     }
-    for length in 0..2 {
-        let sheet = &[0x10, 0x02][..length];
-        assert_eq!(read(&mut random, sheet, 2).0, said(11, 0), "{length}");
-        assert_eq!(draw(&mut random, sheet, 2).0, said(11, 0), "{length}");
+}
+
+#[test]
+fn sheets_have_at_least_2_bytes() {
+    let mut random = Random::new(18);
+    for sheet in [&[][..], &[0x10]] {
+        assert_eq!(read(&mut random, sheet, 2).0, said(11, 0), "{sheet:?}");
+        assert_eq!(draw(&mut random, sheet, 2).0, said(11, 0), "{sheet:?}");
+        assert!(!agrees(&mut random, b"", sheet), "{sheet:?}");
     }
 }
 

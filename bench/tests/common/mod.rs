@@ -63,6 +63,13 @@ impl Lent {
         &mut self.whole[self.front..self.front + self.len]
     }
 
+    /// The first `length` bytes of what was lent, and all the others with the guards.
+    fn parted(&self, length: usize) -> (&[u8], Vec<u8>) {
+        let (before, lent) = self.whole.split_at(self.front);
+        let (start, behind) = lent.split_at(length);
+        (start, [before, behind].concat())
+    }
+
     /// Whether a buffer that was lent for reading holds what it held. The compiler takes that for
     /// granted unless the buffer is hidden from it.
     fn is_still(&self, before: &Lent) -> bool {
@@ -208,21 +215,14 @@ pub fn draw(random: &mut Random, sheet: &[u8], film_len: usize) -> (Said, Vec<Re
         0 => RECORD_SIZE * one.place as usize,
         _ => 0,
     };
-    let drawn = records(&film.slice()[..length]);
-    let expected = records(&film_2.slice()[..length]);
-    assert!(drawn == expected, "records differ: {}", case());
+    let (drawn, rest) = film.parted(length);
+    let (drawn_2, rest_2) = film_2.parted(length);
+    let drawn = records(drawn);
     let once = drawn.windows(2).all(|pair| pair[0] < pair[1]);
+    assert!(drawn == records(drawn_2), "records differ: {}", case());
     assert!(once, "a record occurs twice: {}", case());
-    let untouched = |film: &Lent| {
-        let end = film.front + length;
-        [&film.whole[..film.front], &film.whole[end..]].concat()
-    };
-    assert!(
-        untouched(&film) == untouched(&film_2),
-        "the rest of the film or its guards differ: {}",
-        case()
-    );
-    assert!(given.is_still(&lent), "the sheet was changed: {}", case());
+    assert!(rest == rest_2, "more of the film differs: {}", case());
+    assert!(given.is_still(&lent), "sheet was changed: {}", case());
     (one, drawn)
 }
 

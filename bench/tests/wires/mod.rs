@@ -40,6 +40,9 @@ impl Wire {
     }
 }
 
+/// The indices of the wires at each point that a wire covers.
+type ByPoint = HashMap<(i32, i32), Vec<usize>>;
+
 /// Panics unless the film of a row, its nets numbered from 0 in the order of their first nodes, obeys
 /// the wire rules under these streets.
 pub fn assert_obeyed(row: &[u8], (ku, kl): (u8, u8), film: &[Record]) {
@@ -51,7 +54,8 @@ pub fn assert_obeyed(row: &[u8], (ku, kl): (u8, u8), film: &[Record]) {
         assert!(on_track, "a horizontal on level {level}: {case}");
     }
     assert_one_horizontal_a_cut(&wires, &case);
-    assert_apart_and_joined(row, &wires, &case);
+    let on = wires_by_point(&wires, &case);
+    assert_pins_joined(row, &wires, &on, &case);
 }
 
 /// A cut strictly between two columns meets at most one horizontal of a net.
@@ -68,9 +72,9 @@ fn assert_one_horizontal_a_cut(wires: &[Wire], case: &str) {
     }
 }
 
-/// No point is on two nets, and each net is one piece that has the pins of all its nodes.
-fn assert_apart_and_joined(row: &[u8], wires: &[Wire], case: &str) {
-    let mut on: HashMap<(i32, i32), Vec<usize>> = HashMap::new();
+/// The wires at each point, where no point is on two nets.
+fn wires_by_point(wires: &[Wire], case: &str) -> ByPoint {
+    let mut on = ByPoint::new();
     for (index, wire) in wires.iter().enumerate() {
         for point in wire.points() {
             let there = on.entry(point).or_default();
@@ -79,16 +83,20 @@ fn assert_apart_and_joined(row: &[u8], wires: &[Wire], case: &str) {
             there.push(index);
         }
     }
+    on
+}
+
+/// Each net is one piece that has the pins of all its nodes.
+fn assert_pins_joined(row: &[u8], wires: &[Wire], on: &ByPoint, case: &str) {
     let mut pieces = HashMap::new();
     for (at, &label) in row.iter().enumerate() {
         let pin = (16 * at as i32, 0);
-        let wire = on
-            .get(&pin)
-            .unwrap_or_else(|| panic!("no wire at {pin:?}: {case}"))[0];
+        let there = on.get(&pin);
+        let wire = there.unwrap_or_else(|| panic!("no wire at {pin:?}: {case}"))[0];
         assert_eq!(wires[wire].net, usize::from(label), "at {pin:?}: {case}");
         let piece = pieces
             .entry(label)
-            .or_insert_with(|| piece_of(wire, wires, &on));
+            .or_insert_with(|| piece_of(wire, wires, on));
         assert!(piece.contains(&wire), "net {label} is in pieces: {case}");
     }
     let reached: usize = pieces.values().map(HashSet::len).sum();
