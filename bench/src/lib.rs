@@ -19,6 +19,11 @@ pub mod reference;
 use std::error::Error;
 use std::fmt;
 
+/// The code in the README, so that the tests run it.
+#[cfg(doctest)]
+#[doc = include_str!("../README.md")]
+struct Readme;
+
 /// The most nodes of a row that the router takes.
 pub const MAX_NODES: usize = 512;
 
