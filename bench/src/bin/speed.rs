@@ -24,7 +24,7 @@ mod routers;
 use routers::{depth_first, published, words};
 
 /// How often each router has its turn in a group of rows, and how long a turn lasts at least.
-const TURNS: usize = 5;
+const TURNS: usize = 12;
 const TURN: Duration = Duration::from_millis(20);
 
 struct Row {
