@@ -40,10 +40,9 @@ pub const fn sheet_size(n: usize) -> usize {
     2 + (3 * n).div_ceil(4)
 }
 
-/// Bytes that hold the film of any sheet of `n` nodes: a stub at each node, a horizontal for each
-/// net, and in each gap at most six moves, each with its vertical and one more horizontal.
+/// Bytes that hold the film of any sheet of `n` nodes: no film has more than 14 records a node.
 pub const fn film_bound(n: usize) -> usize {
-    RECORD_SIZE * (n + n / 2 + 12 * n)
+    RECORD_SIZE * 14 * n
 }
 
 /// An answer of the library: a number, 0 for accepted, and a place, whose meaning goes by the
