@@ -1,10 +1,10 @@
 // Lines of sheets: `sheet number place row` of the reader, and behind them `number place film` of the drawer.
-use crate::fields::bytes;
 use crate::told::count;
 use crate::told::is_said;
 use crate::told::is_written;
 use crate::told::prepare;
 use answers::read_said;
+use fields::bytes;
 use sheet::agreement::agrees;
 use sheet::reader::read;
 

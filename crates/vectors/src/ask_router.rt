@@ -1,15 +1,15 @@
 // Lines of the router: `row Ku Kl number place sheet`.
-use crate::buffers::fill;
-use crate::buffers::is_kept;
-use crate::buffers::is_zero;
-use crate::fields::bytes;
-use crate::fields::number;
 use crate::told::count;
 use crate::told::is_said;
 use crate::told::is_written;
 use crate::told::prepare;
 use answers::Said;
 use answers::route_said;
+use fields::bytes;
+use fields::number;
+use lent::fill;
+use lent::is_kept;
+use lent::is_zero;
 use router::route;
 
 // Bytes of work: those of 512 nodes, and 64 that no row needs.

@@ -2,8 +2,6 @@
 mod ask_drawer;
 mod ask_reader;
 mod ask_router;
-mod buffers;
-mod fields;
 mod told;
 
 use ask_drawer::drawer_line;
@@ -34,7 +32,7 @@ fn main() {
     ask(Asked::Drawer, b"wrong-films.txt");
 }
 
-// Answers a file of under 524,288 bytes.
+// Reads a file of under 524,288 bytes, and answers it.
 fn ask(asked: Asked, path: &[u8]) {
     let fd = os::open_read(path);
     if fd < 0 {
@@ -44,11 +42,16 @@ fn ask(asked: Asked, path: &[u8]) {
     let mut text = [0u8; TEXT];
     let n = io::read_full(fd, &mut text);
     libc::close(fd);
-    if n == TEXT {
+    answer(asked, path, &text[..n]);
+}
+
+// Answers the lines of a text, and reports; it says so where the text may be cut short.
+fn answer(asked: Asked, path: &[u8], text: &[u8]) {
+    if text.len() == TEXT {
         io::write_all(STDOUT_FILENO, b"too long: ");
     }
     let mut counts = [0u64; 32];
-    let wrong = lines(asked, path, &text[..n], &mut counts);
+    let wrong = lines(asked, path, text, &mut counts);
     report(path, &counts, wrong);
 }
 

@@ -1,11 +1,11 @@
 // What was answered and written, against a line.
-use crate::buffers::fill;
-use crate::buffers::has;
-use crate::buffers::is_kept;
-use crate::buffers::spoil;
-use crate::fields::bytes;
-use crate::fields::number;
 use answers::Said;
+use fields::bytes;
+use fields::number;
+use lent::fill;
+use lent::has;
+use lent::is_kept;
+use lent::spoil;
 use std::num::wrapping_add_u64;
 ghost use Prim.Native.Nat.{_<_};
 

@@ -1,9 +1,9 @@
--- `vectors::buffers::has` is safe and ends: n is at most both lengths. The measure is what is left of n. Assumes nothing.
+-- `lent::has` is safe and ends: n is at most both lengths. The measure is what is left of n. Assumes nothing.
 use Prim.Native.Nat.{_≤_, _-_}
 use lib.ListN.{length}
 use borrow.Author.Needs.{needs}
-use Rattle.vectors.proofs.buffers.has.Statement.{statement}
-use Rattle.vectors.proofs.buffers.has.Tie as tie
+use Rattle.lent.proofs.has.Statement.{statement}
+use Rattle.lent.proofs.has.Tie as tie
 
 abbrev Inv-loop : tie.InvT-loop
 Inv-loop buffer wanted n i₀ i = (n ≤ length buffer) × (n ≤ length wanted)

@@ -1,11 +1,11 @@
--- `vectors::fields::decoded` is safe and ends. The measure is what is left of n. Assumes nothing.
+-- `fields::decoded` is safe and ends. The measure is what is left of n. Assumes nothing.
 use mathlib.Core.Path.{_≡_}
 use Prim.Native.Nat.{_-_}
 use lib.ListN.{length}
-use Rattle.vectors.proofs.Taking.{taken}
+use Rattle.fields.proofs.Taking.{taken}
 use borrow.Author.Needs.{needs}
-use Rattle.vectors.proofs.fields.decoded.Statement.{statement}
-use Rattle.vectors.proofs.fields.decoded.Tie as tie
+use Rattle.fields.proofs.decoded.Statement.{statement}
+use Rattle.fields.proofs.decoded.Tie as tie
 
 abbrev Inv-loop : tie.InvT-loop
 Inv-loop text n out₀ i₀ out i = length out ≡ length out₀

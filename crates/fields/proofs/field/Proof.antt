@@ -1,9 +1,9 @@
--- `vectors::fields::field` meets its contract: the start stays within the line. The measure is the number of fields left. Assumes nothing.
+-- `fields::field` meets its contract: the start stays within the line. The measure is the number of fields left. Assumes nothing.
 use Prim.Native.Nat.{_≤_}
 use lib.ListN.{length}
 use borrow.Author.Needs.{needs}
-use Rattle.vectors.proofs.fields.field.Statement.{statement}
-use Rattle.vectors.proofs.fields.field.Tie as tie
+use Rattle.fields.proofs.field.Statement.{statement}
+use Rattle.fields.proofs.field.Tie as tie
 
 abbrev Inv-loop : tie.InvT-loop
 Inv-loop line k from₀ left₀ from left = from ≤ length line

@@ -1,8 +1,8 @@
--- `vectors::ask_drawer::has_records` is safe and ends: k is small. The measure is what is left of k. Assumes nothing.
+-- `lent::films::has_records` is safe and ends: k is small. The measure is what is left of k. Assumes nothing.
 use Prim.Native.Nat.{_≤_, _-_}
 use borrow.Author.Needs.{needs}
-use Rattle.vectors.proofs.ask_drawer.has_records.Statement.{statement}
-use Rattle.vectors.proofs.ask_drawer.has_records.Tie as tie
+use Rattle.lent.proofs.films.has_records.Statement.{statement}
+use Rattle.lent.proofs.films.has_records.Tie as tie
 
 abbrev Inv-loop : tie.InvT-loop
 Inv-loop film wanted k i₀ i = k ≤ 1638

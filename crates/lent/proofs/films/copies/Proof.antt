@@ -1,8 +1,8 @@
--- `vectors::ask_drawer::copies` is safe and ends: k is small. The measure is what is left of k. Assumes nothing.
+-- `lent::films::copies` is safe and ends: k is small. The measure is what is left of k. Assumes nothing.
 use Prim.Native.Nat.{_≤_, _-_}
 use borrow.Author.Needs.{needs}
-use Rattle.vectors.proofs.ask_drawer.copies.Statement.{statement}
-use Rattle.vectors.proofs.ask_drawer.copies.Tie as tie
+use Rattle.lent.proofs.films.copies.Statement.{statement}
+use Rattle.lent.proofs.films.copies.Tie as tie
 
 abbrev Inv-loop : tie.InvT-loop
 Inv-loop film k wanted from found₀ i₀ found i = k ≤ 1638

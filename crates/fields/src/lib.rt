@@ -1,7 +1,7 @@
 // The fields of a line: bytes in hex, with `-` for none, and decimal numbers of at most four digits, one space apart.
 ghost use Prim.Native.Nat.{_*_, _≤_};
 ghost use lib.ListN.{length};
-ghost use Rattle.vectors.specs.Text.{Found, Part, Taken};
+ghost use Rattle.fields.specs.Text.{Found, Part, Taken};
 
 // A part of a line, from an index up to another.
 struct Span {

@@ -1,9 +1,9 @@
--- `vectors::buffers::is_zero` is safe and ends: n is at most the length. The measure is what is left of n. Assumes nothing.
+-- `lent::is_zero` is safe and ends: n is at most the length. The measure is what is left of n. Assumes nothing.
 use Prim.Native.Nat.{_≤_, _-_}
 use lib.ListN.{length}
 use borrow.Author.Needs.{needs}
-use Rattle.vectors.proofs.buffers.is_zero.Statement.{statement}
-use Rattle.vectors.proofs.buffers.is_zero.Tie as tie
+use Rattle.lent.proofs.is_zero.Statement.{statement}
+use Rattle.lent.proofs.is_zero.Tie as tie
 
 abbrev Inv-loop : tie.InvT-loop
 Inv-loop buffer n i₀ i = n ≤ length buffer

@@ -1,10 +1,10 @@
--- `vectors::buffers::fill` is safe and ends: a store keeps the length. The measure is what is left of it. Assumes nothing.
+-- `lent::fill` is safe and ends: a store keeps the length. The measure is what is left of it. Assumes nothing.
 use mathlib.Core.Path.{_≡_}
 use Prim.Native.Nat.{_-_}
 use lib.ListN.{length}
 use borrow.Author.Needs.{needs}
-use Rattle.vectors.proofs.buffers.fill.Statement.{statement}
-use Rattle.vectors.proofs.buffers.fill.Tie as tie
+use Rattle.lent.proofs.fill.Statement.{statement}
+use Rattle.lent.proofs.fill.Tie as tie
 
 abbrev Inv-loop : tie.InvT-loop
 Inv-loop buffer₀ i₀ buffer i = length buffer ≡ length buffer₀

@@ -1,10 +1,10 @@
--- `vectors::buffers::spoil` is safe and ends: a store keeps the length. The measure is what is left of the bytes. Assumes nothing.
+-- `lent::spoil` is safe and ends: a store keeps the length. The measure is what is left of the bytes. Assumes nothing.
 use mathlib.Core.Path.{_≡_}
 use Prim.Native.Nat.{_≤_, _-_}
 use lib.ListN.{length}
 use borrow.Author.Needs.{needs}
-use Rattle.vectors.proofs.buffers.spoil.Statement.{statement}
-use Rattle.vectors.proofs.buffers.spoil.Tie as tie
+use Rattle.lent.proofs.spoil.Statement.{statement}
+use Rattle.lent.proofs.spoil.Tie as tie
 
 abbrev Inv-loop : tie.InvT-loop
 Inv-loop buffer₀ wanted i₀ buffer i = (length wanted ≤ length buffer₀) × (length buffer ≡ length buffer₀)
