@@ -1,12 +1,13 @@
-// The fields of a line: bytes in hex, with `-` for none, and decimal numbers of at most four digits, one space apart.
-ghost use Prim.Native.Nat.{_*_, _≤_};
+// The fields of a line: bytes in hex or as they stand, with `-` for none, and decimal numbers of at most five digits, one space apart.
+ghost use mathlib.Core.Path.{_≡_};
+ghost use Prim.Native.Nat.{_*_, _≤_, _<_};
 ghost use lib.ListN.{length};
 ghost use Rattle.fields.specs.Text.{Found, Part, Taken};
 
 // A part of a line, from an index up to another.
-struct Span {
-    from: usize,
-    to: usize,
+pub struct Span {
+    pub from: usize,
+    pub to: usize,
 }
 
 // How many bytes a field has, and whether it is in order.
@@ -16,7 +17,7 @@ pub struct Given {
 }
 
 // Answered for a field that is no number.
-const NO_NUMBER: usize = 99999;
+const NO_NUMBER: usize = 999999;
 
 // The first index of a byte in a text, at or behind `at`, or the text's length.
 pub fn find(text: &[u8], at: usize, byte: u8) -> usize
@@ -34,7 +35,7 @@ pub fn find(text: &[u8], at: usize, byte: u8) -> usize
 }
 
 // Field k of a line, from 0; an empty part where the line has fewer.
-fn field(line: &[u8], k: usize) -> Span
+pub fn field(line: &[u8], k: usize) -> Span
     ensures { λ r. ⌜ Part (r .from) (r .to) (now (line .entry)) ⌝ }
 {
     let mut from = 0;
@@ -70,26 +71,62 @@ fn bytes_of(text: &[u8], out: &mut [u8]) -> Given
     ensures { λ r. ⌜ Taken (r .count) (length (now (out .entry))) (now (out .exit)) ⌝ }
 {
     if is_none(text) {
-        return Given {
-            count: 0,
-            is_good: true,
-        };
+        return no_bytes(true);
     }
     let n = text.len() / 2;
     if n > out.len() {
-        return Given {
-            count: 0,
-            is_good: false,
-        };
+        return no_bytes(false);
     }
     if text.len() % 2 != 0 {
-        return Given {
-            count: 0,
-            is_good: false,
-        };
+        return no_bytes(false);
     }
     let is_good = decoded(text, n, out);
     Given { count: n, is_good }
+}
+
+// Puts field k as it stands to the start of `out`.
+pub fn letters(line: &[u8], k: usize, out: &mut [u8]) -> Given
+    ensures { λ r. ⌜ Taken (r .count) (length (now (out .entry))) (now (out .exit)) ⌝ }
+{
+    let part = field(line, k);
+    let from = part.from;
+    let to = part.to;
+    letters_of(&line[from..to], out)
+}
+
+fn letters_of(text: &[u8], out: &mut [u8]) -> Given
+    ensures { λ r. ⌜ Taken (r .count) (length (now (out .entry))) (now (out .exit)) ⌝ }
+{
+    if is_none(text) {
+        return no_bytes(true);
+    }
+    if text.len() > out.len() {
+        return no_bytes(false);
+    }
+    copy(text, out);
+    Given {
+        count: text.len(),
+        is_good: text.len() > 0,
+    }
+}
+
+// Copies a text to the start of `out`.
+fn copy(text: &[u8], out: &mut [u8])
+    requires { ⌜ length (now text) ≤ length (now out) ⌝ }
+    ensures { λ _. ⌜ Taken (length (now (text .entry))) (length (now (out .entry))) (now (out .exit)) ⌝ }
+{
+    let mut i = 0;
+    while i < text.len() {
+        out[i] = text[i];
+        i += 1;
+    }
+}
+
+// The answer where nothing is put.
+fn no_bytes(is_good: bool) -> Given
+    ensures { λ r. ⌜ r .count ≡ 0 ⌝ }
+{
+    Given { count: 0, is_good }
 }
 
 // Whether a field is `-`.
@@ -151,11 +188,21 @@ fn number_of(text: &[u8]) -> usize {
         if x > 9 {
             return NO_NUMBER;
         }
-        if value > 999 {
+        if value > 9999 {
             return NO_NUMBER;
         }
         value = value * 10 + x as usize;
         i += 1;
     }
     value
+}
+
+// Whether fields k and k + 1 of a line are the number and the place of an answer.
+pub fn is_said(line: &[u8], k: usize, said: u32, place: usize) -> bool
+    requires { ⌜ k < 32 ⌝ }
+{
+    if said as usize != number(line, k) {
+        return false;
+    }
+    place == number(line, k + 1)
 }

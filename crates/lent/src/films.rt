@@ -1,12 +1,25 @@
 // Films as sets of records, whose order is free.
 use crate::has;
+use crate::is_kept;
 use std::num::wrapping_add_u64;
+
+// Whether a film starts with the wanted records in any order, each once, and still has the pattern behind them.
+pub fn is_drawn(film: &[u8], wanted: &[u8]) -> bool {
+    let n = wanted.len();
+    if n % 5 != 0 {
+        return false;
+    }
+    if !has_records(film, wanted, n / 5) {
+        return false;
+    }
+    is_kept(film, n)
+}
 
 // The most records that a film here has.
 const MOST: usize = 1638;
 
 // Whether the first k records of one film are those of another, each once.
-pub fn has_records(film: &[u8], wanted: &[u8], k: usize) -> bool {
+fn has_records(film: &[u8], wanted: &[u8], k: usize) -> bool {
     if k > MOST {
         return false;
     }

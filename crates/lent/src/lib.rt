@@ -70,3 +70,38 @@ pub fn is_zero(buffer: &[u8], n: usize) -> bool {
     }
     true
 }
+
+// Fills a buffer with the pattern, and its start with bytes that differ from those wanted there, so that each of those must be written.
+pub fn prepare(buffer: &mut [u8], wanted: &[u8]) {
+    fill(buffer);
+    spoil(buffer, wanted);
+}
+
+// Whether a buffer starts with the wanted bytes, and still has the pattern behind them.
+pub fn is_written(buffer: &[u8], wanted: &[u8]) -> bool {
+    let n = wanted.len();
+    if !has(buffer, wanted, n) {
+        return false;
+    }
+    is_kept(buffer, n)
+}
+
+// Whether work is what the router's answer to a row of n nodes leaves: 90 bytes a node are zero after 0 and 6, and every other byte is as it was.
+pub fn is_cleared(work: &[u8], number: u32, n: usize) -> bool {
+    let zeros = cleared(number, n);
+    if !is_zero(work, zeros) {
+        return false;
+    }
+    is_kept(work, zeros)
+}
+
+// How many bytes of work the router clears.
+fn cleared(number: u32, n: usize) -> usize {
+    if n > 512 {
+        return 0;
+    }
+    match number {
+        0 | 6 => 90 * n,
+        _ => 0,
+    }
+}

@@ -1,12 +1,11 @@
 // Lines of sheets: behind the reader's fields `number place film` of the drawer, whose records may stand in another order.
 use crate::told::count;
-use crate::told::is_said;
 use answers::draw_said;
 use fields::bytes;
+use fields::is_said;
 use film::drawer::draw;
 use lent::fill;
-use lent::films::has_records;
-use lent::is_kept;
+use lent::films::is_drawn;
 
 // Bytes of a film: more than any sheet of the vectors needs.
 const FILM: usize = 8192;
@@ -19,16 +18,16 @@ pub fn drawer_line(line: &[u8], counts: &mut [u64; 32]) -> bool {
         return false;
     }
     let size = given.count;
-    is_drawn(&sheet[..size], line, counts)
+    is_answered(&sheet[..size], line, counts)
 }
 
 // Whether the drawer answers a sheet as its line says: number, place, the film's records in any order, and every other byte as it was.
-fn is_drawn(sheet: &[u8], line: &[u8], counts: &mut [u64; 32]) -> bool {
+fn is_answered(sheet: &[u8], line: &[u8], counts: &mut [u64; 32]) -> bool {
     let mut film = [0u8; FILM];
     fill(&mut film);
     let said = draw_said(draw(sheet, &mut film));
     count(counts, said);
-    if !is_said(line, 4, said) {
+    if !is_said(line, 4, said.number, said.place) {
         return false;
     }
     let mut wanted = [0u8; FILM];
@@ -37,11 +36,5 @@ fn is_drawn(sheet: &[u8], line: &[u8], counts: &mut [u64; 32]) -> bool {
         return false;
     }
     let n = given.count;
-    if n % 5 != 0 {
-        return false;
-    }
-    if !is_kept(&film, n) {
-        return false;
-    }
-    has_records(&film, &wanted, n / 5)
+    is_drawn(&film, &wanted[..n])
 }

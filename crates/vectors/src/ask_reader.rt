@@ -1,10 +1,10 @@
 // Lines of sheets: `sheet number place row` of the reader, and behind them `number place film` of the drawer.
 use crate::told::count;
-use crate::told::is_said;
 use crate::told::is_written;
 use crate::told::prepare;
 use answers::read_said;
 use fields::bytes;
+use fields::is_said;
 use sheet::agreement::agrees;
 use sheet::reader::read;
 
@@ -26,7 +26,7 @@ fn is_read(sheet: &[u8], line: &[u8], counts: &mut [u64; 32]) -> bool {
     prepare(line, 3, &mut row);
     let said = read_said(read(sheet, &mut row));
     count(counts, said);
-    if !is_said(line, 1, said) {
+    if !is_said(line, 1, said.number, said.place) {
         return false;
     }
     if !is_written(line, 3, &row) {

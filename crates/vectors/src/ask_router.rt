@@ -1,15 +1,13 @@
 // Lines of the router: `row Ku Kl number place sheet`.
 use crate::told::count;
-use crate::told::is_said;
 use crate::told::is_written;
 use crate::told::prepare;
-use answers::Said;
 use answers::route_said;
 use fields::bytes;
+use fields::is_said;
 use fields::number;
 use lent::fill;
-use lent::is_kept;
-use lent::is_zero;
+use lent::is_cleared;
 use router::route;
 
 // Bytes of work: those of 512 nodes, and 64 that no row needs.
@@ -42,27 +40,11 @@ fn is_routed(row: &[u8], ku: u8, kl: u8, line: &[u8], counts: &mut [u64; 32]) ->
     prepare(line, 5, &mut sheet);
     let said = route_said(route(row, ku, kl, &mut work, &mut sheet));
     count(counts, said);
-    let zeros = cleared(said, row.len());
-    if !is_zero(&work, zeros) {
+    if !is_cleared(&work, said.number, row.len()) {
         return false;
     }
-    if !is_kept(&work, zeros) {
-        return false;
-    }
-    if !is_said(line, 3, said) {
+    if !is_said(line, 3, said.number, said.place) {
         return false;
     }
     is_written(line, 5, &sheet)
-}
-
-// How many bytes of work are zero after an answer of a row of n nodes: 90 a node after 0 and 6.
-fn cleared(said: Said, n: usize) -> usize {
-    if n > 512 {
-        return 0;
-    }
-    let number = said.number;
-    match number {
-        0 | 6 => 90 * n,
-        _ => 0,
-    }
 }

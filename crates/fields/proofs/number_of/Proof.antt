@@ -1,4 +1,4 @@
--- `fields::number_of` is safe and ends: the value stays under 1000. The measure is what is left of the text. Assumes nothing.
+-- `fields::number_of` is safe and ends: the value stays under 100,000. The measure is what is left of the text. Assumes nothing.
 use Prim.Native.Nat.{_≤_, _-_}
 use lib.ListN.{length}
 use borrow.Author.Needs.{needs}
@@ -6,7 +6,7 @@ use Rattle.fields.proofs.number_of.Statement.{statement}
 use Rattle.fields.proofs.number_of.Tie as tie
 
 abbrev Inv-loop : tie.InvT-loop
-Inv-loop text value₀ i₀ value i = value ≤ 9999
+Inv-loop text value₀ i₀ value i = value ≤ 99999
 
 abbrev μ-loop : tie.MeasureT-loop
 μ-loop text value₀ i₀ value i = length text - i
