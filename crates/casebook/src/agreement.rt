@@ -10,13 +10,8 @@ use fields::letters;
 use libc::STDOUT_FILENO;
 use sheet::agreement::agrees;
 
-// A case whose row and sheet stand in its line.
-pub fn agreement_case(tally: Tally, line: &[u8], wanted: bool) -> Tally {
-    agreement_at(tally, line, 2, wanted)
-}
-
-// A case in a longer line: the sheet is field `from`.
-pub fn agreement_at(tally: Tally, line: &[u8], from: usize, wanted: bool) -> Tally {
+// A case whose row is field 1 of its line, and whose sheet is field `from`.
+pub fn agreement_case(tally: Tally, line: &[u8], from: usize, wanted: bool) -> Tally {
     let mut row = [0u8; 1024];
     let given = letters(line, 1, &mut row);
     if !given.is_good {
@@ -40,13 +35,17 @@ fn agreement_row(tally: Tally, line: &[u8], from: usize, row: &[u8], wanted: boo
 pub fn agreement_sheet(tally: Tally, line: &[u8], row: &[u8], sheet: &[u8], wanted: bool) -> Tally {
     let is_agreed = agrees(row, sheet);
     print_name(b"agreement", line);
-    if is_agreed {
-        io::write_all(STDOUT_FILENO, b"yes");
-    } else {
-        io::write_all(STDOUT_FILENO, b"no");
-    }
+    print_yes(is_agreed);
     let is_answer = is_agreed == wanted;
     print_test(b"answer", is_answer);
     end_line();
     noted(tally, is_answer)
+}
+
+fn print_yes(is_agreed: bool) {
+    if is_agreed {
+        io::write_all(STDOUT_FILENO, b"yes");
+        return;
+    }
+    io::write_all(STDOUT_FILENO, b"no");
 }

@@ -27,7 +27,11 @@ pub fn judged(tally: Tally, line: &[u8], k: usize, said: Said, are_buffers: bool
     let is_answer = is_said(line, k, said.number, said.place);
     print_test(b"answer", is_answer);
     end_line();
-    noted(tally, is_answer && are_buffers)
+    noted(tally, both(is_answer, are_buffers))
+}
+
+pub fn both(first: bool, second: bool) -> bool {
+    first && second
 }
 
 // Stands for the answer where the buffers that a line names cannot be lent; no line wants it.

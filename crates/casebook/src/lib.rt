@@ -7,14 +7,15 @@ pub mod pairs;
 mod print;
 pub mod reading;
 pub mod routing;
+mod sheets;
 mod whole;
 
 use agreement::agreement_case;
-use drawing::drawer_case;
 use fields::find;
 use libc::STDOUT_FILENO;
-use reading::reader_case;
 use routing::router_case;
+use sheets::Lent;
+use sheets::sheet_case;
 use whole::whole_case;
 
 // How many cases were asked, and how many of them had an answer or a byte that differs from what is wanted.
@@ -56,9 +57,9 @@ fn ask_line(tally: Tally, asked: Asked, line: &[u8]) -> Tally {
     }
     match asked {
         Asked::Router => router_case(tally, line),
-        Asked::Reader => reader_case(tally, line),
-        Asked::Drawer => drawer_case(tally, line),
-        Asked::Agreement(wanted) => agreement_case(tally, line, wanted),
+        Asked::Reader => sheet_case(tally, Lent::Row, line, 1, 2),
+        Asked::Drawer => sheet_case(tally, Lent::Film, line, 1, 2),
+        Asked::Agreement(wanted) => agreement_case(tally, line, 2, wanted),
         Asked::Whole => whole_case(tally, line),
     }
 }

@@ -1,5 +1,6 @@
 // Cases of the text that `listrow` prints.
 use crate::Tally;
+use crate::judged::both;
 use crate::judged::noted;
 use crate::print::end_line;
 use crate::print::print_name;
@@ -73,8 +74,8 @@ fn judged_long(
     io::write_all(STDOUT_FILENO, b", ");
     io::print_decimal(STDOUT_FILENO, lines as u64);
     io::write_all(STDOUT_FILENO, b" lines");
-    let is_long = text.len() == number(line, 1) && lines == number(line, 2);
-    let is_right = is_rest && is_long && has_ends(text, first, last);
+    let is_long = both(text.len() == number(line, 1), lines == number(line, 2));
+    let is_right = both(both(is_rest, is_long), has_ends(text, first, last));
     print_test(b"text", is_right);
     end_line();
     print_first(text, first.len());

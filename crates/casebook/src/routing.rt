@@ -1,5 +1,6 @@
 // Cases of the router: `name row Ku Kl work sheet number place wanted`. The row is in letters; `work` and `sheet` are the bytes that are lent.
 use crate::Tally;
+use crate::judged::both;
 use crate::judged::judged;
 use crate::judged::no_answer;
 use crate::judged::unread;
@@ -47,38 +48,40 @@ pub fn router_sheet(tally: Tally, line: &[u8], row: &[u8], wanted: &[u8]) -> Tal
     let mut sheet = [0u8; 1024];
     fill(&mut work);
     prepare(&mut sheet, wanted);
-    let said = routed(line, row, &mut work, &mut sheet);
+    let said = lent_and_routed(line, row, &mut work, &mut sheet);
     print_case(b"router", line, said, &sheet, wanted.len());
-    let is_sheet = is_written(&sheet, wanted);
     let is_work = is_cleared(&work, said.number, row.len());
-    print_test(b"sheet", is_sheet);
-    print_test(b"work", is_work);
-    judged(tally, line, 6, said, is_sheet && is_work)
+    compared(tally, line, said, is_written(&sheet, wanted), is_work)
 }
 
-// Routes with buffers of the lengths that the line names.
-fn routed(line: &[u8], row: &[u8], work: &mut [u8], sheet: &mut [u8]) -> Said {
-    let ku = number(line, 2);
-    let kl = number(line, 3);
+// Routes with buffers of the lengths that the line names, where there are so many bytes.
+fn lent_and_routed(line: &[u8], row: &[u8], work: &mut [u8], sheet: &mut [u8]) -> Said {
     let space = number(line, 4);
     let size = number(line, 5);
-    if ku > 255 {
-        return no_answer();
-    }
-    if kl > 255 {
-        return no_answer();
-    }
     if space > work.len() {
         return no_answer();
     }
     if size > sheet.len() {
         return no_answer();
     }
-    route_said(route(
-        row,
-        ku as u8,
-        kl as u8,
-        &mut work[0..space],
-        &mut sheet[0..size],
-    ))
+    routed(line, row, &mut work[0..space], &mut sheet[0..size])
+}
+
+// Routes under the track counts that the line names.
+fn routed(line: &[u8], row: &[u8], work: &mut [u8], sheet: &mut [u8]) -> Said {
+    let ku = number(line, 2);
+    let kl = number(line, 3);
+    if ku > 255 {
+        return no_answer();
+    }
+    if kl > 255 {
+        return no_answer();
+    }
+    route_said(route(row, ku as u8, kl as u8, work, sheet))
+}
+
+fn compared(tally: Tally, line: &[u8], said: Said, is_sheet: bool, is_work: bool) -> Tally {
+    print_test(b"sheet", is_sheet);
+    print_test(b"work", is_work);
+    judged(tally, line, 6, said, both(is_sheet, is_work))
 }

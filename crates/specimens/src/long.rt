@@ -24,7 +24,7 @@ pub fn most_nodes(tally: Tally) -> Tally {
 fn most_routed(tally: Tally, row: &[u8], sheet: &[u8]) -> Tally {
     let tally = router_sheet(
         tally,
-        b"512-nodes aabb.. 1 0 46080 386 0 512 1202..",
+        b"512-nodes aabb.. 1 0 46080 386 0 512 1200..",
         row,
         sheet,
     );
@@ -42,22 +42,22 @@ fn most_routed(tally: Tally, row: &[u8], sheet: &[u8]) -> Tally {
 }
 
 fn most_read(tally: Tally, row: &[u8], sheet: &[u8]) -> Tally {
-    let tally = reader_row(tally, b"512-nodes 1202.. 512 0 512 0000..", 2, sheet, row);
+    let tally = reader_row(tally, b"512-nodes 1200.. 512 0 512 0000..", 2, sheet, row);
     let tally = reader_row(
         tally,
-        b"512-nodes-row-short 1202.. 511 14 0 -",
+        b"512-nodes-row-short 1200.. 511 14 0 -",
         2,
         sheet,
         b"",
     );
-    agreement_sheet(tally, b"512-nodes aabb.. 1202..", row, sheet, true)
+    agreement_sheet(tally, b"512-nodes aabb.. 1200..", row, sheet, true)
 }
 
 fn most_drawn(tally: Tally, sheet: &[u8], film: &[u8]) -> Tally {
-    let tally = drawer_film(tally, b"512-nodes 1202.. 3840 0 768 8020..", 2, sheet, film);
+    let tally = drawer_film(tally, b"512-nodes 1200.. 3840 0 768 8020..", 2, sheet, film);
     drawer_film(
         tally,
-        b"512-nodes-film-short 1202.. 3839 21 0 -",
+        b"512-nodes-film-short 1200.. 3839 21 0 -",
         2,
         sheet,
         b"",
