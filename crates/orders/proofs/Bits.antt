@@ -11,24 +11,8 @@ use lib.Bits.{bitXor, differ, xor-shr, xor-step, shifted-even}
 use lib.Pow.{pow-pos, pow-lt, pow-add, shl-shr, shl-exact}
 use lib.Dec.{eqb, ltb}
 use borrow.Author.Tests.{ltb-true, ltb-false, eqb-true, eqb-false}
-use Rattle.orders.specs.Sets.{ranks, stretch, address, lit, marked, source, Holds, Set}
-
-pub address-below : (r : ℕ) → r < ranks → address r < ranks
-unfolding address
-address-below r h = h
-
-pub address-one : (r x : ℕ) → r < ranks → x < ranks → address r ≡ address x → r ≡ x
-unfolding address
-address-one r x hr hx e = e
-
--- the bits of gaps do not overlap
-pub spot-one : (g r h x : ℕ) → r < ranks → x < ranks → ranks * g + address r ≡ ranks * h + address x → (g ≡ h) × (r ≡ x)
-spot-one g r h x hr hx e =
-    let hg : g ≡ h = omega (arith, address-below r hr, address-below x hx) in
-    (hg, address-one r x hr hx (omega arith))
-
-pub spot-inside : (s : List ℕ) (g r : ℕ) → stretch * suc g ≤ length s → r < ranks → (ranks * g + address r) / 8 < length s
-spot-inside s g r hg hr = omega (arith, address-below r hr)
+use Rattle.orders.specs.Sets.{ranks, stretch, held, address, lit, marked, source, Holds, Set}
+use Rattle.orders.proofs.Slots.{spot-one, spot-inside, held-few}
 
 -- the bits of a power of two
 power-own : (n : ℕ) → 2 ^ n / 2 ^ n % 2 ≡ 1
@@ -109,25 +93,51 @@ lit-other s k j h f = go (eqb (j / 8) (k / 8)) refl
         ap (λ (d : ℕ). eqb (d / 2 ^ (j % 8) % 2) 1)
         (getD-set-other s (k / 8) (j / 8) (bitXor (getD s (k / 8) 0) (2 ^ (k % 8))) 0 (eqb-false (j / 8) (k / 8) e))
 
+pub not-both : {t : Bool} → t ≡ false → t ≡ true → ⊥
+not-both f e = let z : _≡_ {A = ℕ} 0 1 = cc in omega arith
+
+-- a rank's mark is its bit, where a set can hold it, and none where not
+module _ (s : List ℕ) (g r : ℕ) where
+  pub marked-lit : held r ≡ true → marked s g r ≡ lit s (8 * (stretch * g) + address r)
+  unfolding marked
+  marked-lit h = rw h
+
+  pub marked-none : held r ≡ false → marked s g r ≡ false
+  unfolding marked
+  marked-none h = rw h
+
+  pub marked-held : marked s g r ≡ true → held r ≡ true
+  marked-held e = go (held r) refl
+    where
+      go : (t : Bool) → held r ≡ t → t ≡ true
+      go true h = refl
+      go false h = absurd (not-both (marked-none h) e)
+
+-- marks are the same where bits are
+pub marked-same : (s t : List ℕ) (g r : ℕ) → (held r ≡ true → lit t (8 * (stretch * g) + address r) ≡ lit s (8 * (stretch * g) + address r)) →
+    marked t g r ≡ marked s g r
+marked-same s t g r f = go (held r) refl
+  where
+    go : (b : Bool) → held r ≡ b → marked t g r ≡ marked s g r
+    go true h = marked-lit t g r h ∙ f h ∙ sym (marked-lit s g r h)
+    go false h = marked-none t g r h ∙ sym (marked-none s g r h)
+
 -- turning a rank's bit over
-pub turn-set : (s : List ℕ) (g r : ℕ) → Holds s g r → Set s g r (not (marked s g r)) (turned s (ranks * g + address r))
-unfolding marked
+pub turn-set : (s : List ℕ) (g r : ℕ) → Holds s g r → Set s g r (not (marked s g r)) (turned s (8 * (stretch * g) + address r))
 turn-set s g r h =
-    let k : ℕ = ranks * g + address r in
+    let k : ℕ = 8 * (stretch * g) + address r in
     let i = spot-inside s g r (h .gap) (h .rank) in
     record {
       long = length-set s (k / 8) (bitXor (getD s (k / 8) 0) (2 ^ (k % 8)));
-      own = lit-own s k i;
-      others = λ y x l f. lit-other s k (ranks * y + address x) i (λ e. let m = spot-one y x g r l (h .rank) e in f (m .0) (m .1));
+      own = marked-lit (turned s k) g r (h .rank) ∙ lit-own s k i ∙ ap not (sym (marked-lit s g r (h .rank)));
+      others = λ y x l f. marked-same s (turned s k) y x
+          (λ m. lit-other s k (8 * (stretch * y) + address x) i (λ e. let n = spot-one y x g r m (h .rank) e in f (n .0) (n .1)));
     }
 
 -- a mark turned over where it is known
 pub set-turned : (s : List ℕ) (g r : ℕ) (v : Bool) (t : List ℕ) → Set s g r (not (marked s g r)) t → marked s g r ≡ v →
     Set s g r (not v) t
 set-turned s g r v t h e = rw e at h
-
-pub not-both : {t : Bool} → t ≡ false → t ≡ true → ⊥
-not-both f e = let z : _≡_ {A = ℕ} 0 1 = cc in omega arith
 
 -- the ranks before a node
 pub source-none : (s : List ℕ) (g r : ℕ) → g ≡ 0 → source s g r ≡ eqb r 0
@@ -138,36 +148,42 @@ pub source-gap : (s : List ℕ) (g h r : ℕ) → g ≡ suc h → source s g r �
 unfolding source
 source-gap s g h r e = rw e
 
+pub source-held : (s : List ℕ) (g r : ℕ) → source s g r ≡ true → held r ≡ true
+unfolding source
+source-held s zero r e = held-few r (omega (arith, eqb-true r 0 e))
+source-held s (suc g) r e = marked-held s g r e
+
 -- a mark that is there already
 pub set-already : (s : List ℕ) (g r : ℕ) (v : Bool) → marked s g r ≡ v → Set s g r v s
 set-already s g r v e = record { long = refl; own = e; others = λ h x l f. refl }
 
 -- bytes that are 0 have no mark
 pub clear-empty : (s : List ℕ) → ((i : ℕ) → getD s i 0 ≡ 0) → (g x : ℕ) → marked s g x ≡ true → ⊥
-unfolding marked lit
+unfolding lit
 clear-empty s z g x e =
-    let k : ℕ = ranks * g + address x in
+    let k : ℕ = 8 * (stretch * g) + address x in
     let w : getD s (k / 8) 0 / 2 ^ (k % 8) % 2 ≡ 0 = ap (λ (d : ℕ). d / 2 ^ (k % 8) % 2) (z (k / 8)) ∙ ap (λ (d : ℕ). d % 2)
     (zero-div (2 ^ (k % 8))) in
-    let o : getD s (k / 8) 0 / 2 ^ (k % 8) % 2 ≡ 1 = eqb-true (getD s (k / 8) 0 / 2 ^ (k % 8) % 2) 1 e in
+    let o : getD s (k / 8) 0 / 2 ^ (k % 8) % 2 ≡ 1 =
+    eqb-true (getD s (k / 8) 0 / 2 ^ (k % 8) % 2) 1 (sym (marked-lit s g x (marked-held s g x e)) ∙ e) in
     omega arith
 
 -- a rank's byte and bit, as the code finds them
 module _ (s : List ℕ) (g r k : ℕ) (e : k ≡ address r) where
-  byte-at : stretch * g + k / 8 ≡ (ranks * g + address r) / 8
+  byte-at : stretch * g + k / 8 ≡ (8 * (stretch * g) + address r) / 8
   byte-at = omega arith
 
-  bit-at : k % 8 ≡ (ranks * g + address r) % 8
+  bit-at : k % 8 ≡ (8 * (stretch * g) + address r) % 8
   bit-at = omega arith
 
-  pub byte-inside : stretch * suc g ≤ length s → r < ranks → stretch * g + k / 8 < length s
+  pub byte-inside : stretch * suc g ≤ length s → held r ≡ true → stretch * g + k / 8 < length s
   byte-inside hg hr = omega (arith, spot-inside s g r hg hr, byte-at)
 
-  pub marked-at : eqb (getD s (stretch * g + k / 8) 0 / 2 ^ (k % 8) % 2) 1 ≡ marked s g r
-  unfolding marked lit
-  marked-at = ap₂ (λ (i n : ℕ). eqb (getD s i 0 / 2 ^ n % 2) 1) byte-at bit-at
+  pub marked-at : held r ≡ true → eqb (getD s (stretch * g + k / 8) 0 / 2 ^ (k % 8) % 2) 1 ≡ marked s g r
+  unfolding lit
+  marked-at h = ap₂ (λ (i n : ℕ). eqb (getD s i 0 / 2 ^ n % 2) 1) byte-at bit-at ∙ sym (marked-lit s g r h)
 
-  pub turned-at : set s (stretch * g + k / 8) (bitXor (getD s (stretch * g + k / 8) 0) (1 * 2 ^ (k % 8) % 256)) ≡ turned s (ranks * g + address r)
+  pub turned-at : set s (stretch * g + k / 8) (bitXor (getD s (stretch * g + k / 8) 0) (1 * 2 ^ (k % 8) % 256)) ≡ turned s (8 * (stretch * g) + address r)
   turned-at =
       let n : ℕ = k % 8 in
       let w : 1 * 2 ^ n % 256 ≡ 2 ^ n = shl-exact 1 n 8 (omega arith) (omega arith) ∙ one-mul (2 ^ n) in

@@ -2,10 +2,10 @@
 use mathlib.Core.Path.{_≡_, refl}
 use mathlib.Core.Bool.{Bool, true, false, _&&_}
 use mathlib.Core.Option.{Option, none, some}
-use Prim.Native.Nat.{ℕ, zero, suc, _+_, _*_, _≤_, _<_}
+use Prim.Native.Nat.{ℕ, zero, suc, _+_, _-_, _*_, _≤_, _<_}
 use native.Mathlib.Omega.{arith}
-use lib.Dec.{T, eqb}
-use borrow.Author.Tests.{eq-eqb, ne-eqb}
+use lib.Dec.{T, eqb, ltb}
+use borrow.Author.Tests.{eq-eqb, ne-eqb, ltb-true, ltb-false}
 use Rattle.rules.specs.Basic.{keep}
 use Rattle.rules.specs.Street.{fits}
 use Rattle.rules.specs.Sheet.{kindIn}
@@ -13,11 +13,12 @@ use Rattle.rules.specs.Judgement.{left}
 use Rattle.rules.proofs.Fits.{Fits, fits→, →fits}
 use Rattle.orders.specs.Plan.{step}
 use Rattle.orders.specs.Ranks.{capacity, fact, atOf, lessOf, hopOf}
-use Rattle.orders.specs.Sets.{ranks}
+use Rattle.orders.specs.Sets.{ranks, held}
 use Rattle.orders.specs.Stops.{hopAt, told, Sound}
 use Rattle.orders.specs.declared.rank.Stop.{Stop}
 use Rattle.orders.specs.declared.rank.Landing.the-variants.{To, Nowhere}
-use Rattle.orders.proofs.Ranks.{rank-lt, less-lt, fact-six}
+use Rattle.orders.proofs.Ranks.{rank-lt, less-lt, fact-five, fact-six, fact-of-five}
+use Rattle.orders.proofs.Slots.{held-few, held-middle}
 
 pub of-true : {b : Bool} → b ≡ true → T b
 of-true e = rw e tt
@@ -130,11 +131,43 @@ hop-made ku kl (suc (suc zero)) a b r p x e =
     }
 hop-made ku kl (suc (suc (suc k))) a b r p x e = let z : _≡_ {A = ℕ} 0 1 = cc in absurd (omega arith)
 
+-- a net that is begun as the sixth fits in the middle alone
+begun-held : (ku kl b r p : ℕ) → ku ≤ 3 → kl ≤ 3 → r < fact b → Fits ku kl (suc p) (suc b) → held (p * fact b + r) ≡ true
+begun-held ku kl b r p hu hl l f = go (ltb b 5) refl
+  where
+    go : (t : Bool) → ltb b 5 ≡ t → held (p * fact b + r) ≡ true
+    go true e =
+        let m : suc b ≤ 5 = ltb-true b 5 e in
+        held-few (p * fact b + r) (omega (arith, rank-lt p b r (omega arith) l, fact-five (suc b) m))
+    go false e =
+        let m : b ≡ 5 = omega (arith, ltb-false b 5 e) in
+        let n : fact b ≡ 120 = rw m (fact-of-five) in
+        rw n (held-middle (p * 120 + r) (omega arith) (omega arith))
+
+ended-held : (a b r : ℕ) → b ≤ capacity → a < b → r < fact b → held (lessOf a b r) ≡ true
+ended-held a b r f h l = held-few (lessOf a b r) (omega (arith, less-lt a b r h l, fact-five (b - 1) (omega arith)))
+
 -- at a sound stop a hop has one of six capacity, and lands on a rank of the gap
 pub stop-lands : (t : Stop) (r p x : ℕ) → Sound t → r < fact (t .count) → hopAt t r p ≡ some x → (p < capacity) × (x < ranks)
 stop-lands t r p x h l e =
     let m = hop-made (t .ku) (t .kl) (t .kind) (t .age) (t .count) r p x e in
     (omega arith, omega (arith, m .lands (h .touched) l, fact-six (left (kindIn (t .kind)) (t .count)) (omega arith)))
+
+-- and on a rank that a set can hold, from one that it can
+pub hop-held : (ku kl k a b r p x : ℕ) → ku ≤ 3 → kl ≤ 3 → b ≤ capacity → (0 < k → a < b) → r < fact b → held r ≡ true →
+    hopOf ku kl (step k a b) r p ≡ some x → held x ≡ true
+unfolding hopOf
+hop-held ku kl zero a b r p x hu hl f h l d e =
+    let (t, q) = kept (fits ku kl (suc p) (suc b)) (p * fact b + r) x e in
+    rw (← q) (begun-held ku kl b r p hu hl l (fits-fits ku kl (suc p) (suc b) t))
+hop-held ku kl (suc zero) a b r p x hu hl f h l d e =
+    rw (← kept (eqb p (atOf a b r) && fits ku kl (suc p) b) r x e .1) d
+hop-held ku kl (suc (suc zero)) a b r p x hu hl f h l d e =
+    rw (← kept (eqb p (atOf a b r) && fits ku kl (suc p) b) (lessOf a b r) x e .1) (ended-held a b r f (h (omega arith)) l)
+hop-held ku kl (suc (suc (suc k))) a b r p x hu hl f h l d e = let z : _≡_ {A = ℕ} 0 1 = cc in absurd (omega arith)
+
+pub stop-held : (t : Stop) (r p x : ℕ) → Sound t → r < fact (t .count) → held r ≡ true → hopAt t r p ≡ some x → held x ≡ true
+stop-held t r p x h = hop-held (t .ku) (t .kl) (t .kind) (t .age) (t .count) r p x (h .upper) (h .lower) (h .few) (h .touched)
 
 pub told-to : (o : Option ℕ) (x : ℕ) → To x ≡ told o → o ≡ some x
 told-to none x e = let z : _≡_ {A = ℕ} 0 1 = cc in absurd (omega arith)

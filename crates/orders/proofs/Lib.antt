@@ -1,4 +1,5 @@
 pub mod Ranks
+pub mod Slots
 pub mod Hops
 pub mod Bits
 pub mod Gains

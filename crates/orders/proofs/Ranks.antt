@@ -3,7 +3,7 @@ use mathlib.Core.Path.{_≡_, refl, sym, ap, ap₂, _∙_}
 use mathlib.Core.Bool.{Bool, true, false}
 use mathlib.Core.List.{List, [], _∷_}
 use Prim.Native.Nat.{ℕ, zero, suc, _+_, _-_, _*_, _/_, _%_, _≤_, _<_}
-use native.Mathlib.Nat.{mod-lt, div-lt-iff-lt-mul, mul-add-div-right, mul-add-mod-self-right, div-eq-of-lt, mod-eq-of-lt}
+use native.Mathlib.Nat.{mod-lt, div-lt-iff-lt-mul, mul-add-div-right, mul-add-mod-self-right, div-eq-of-lt, mod-eq-of-lt, zero-add, suc-add}
 use native.Mathlib.Nat.{suc-mul, add-zero, mul-le-mul-right, mul-pos}
 use native.Mathlib.Omega.{arith}
 use lib.ListN.{length, getD}
@@ -25,22 +25,36 @@ unfolding fact
 digit-lt b r h = div-lt-iff-lt-mul (fact-pos b) .1 h
 
 -- a new net of b + 1 at p, over an order of rank r
+fact-grows : (b : ℕ) → fact b ≤ fact (suc b)
+unfolding fact
+fact-grows b = omega (arith, suc-mul b (fact b))
+
 pub rank-lt : (p b r : ℕ) → p ≤ b → r < fact b → p * fact b + r < fact (suc b)
 unfolding fact
 rank-lt p b r hp hr =
     let h : suc p * fact b ≤ suc b * fact b = mul-le-mul-right (fact b) (omega arith) in
     omega (arith, suc-mul p (fact b))
 
+fact-more : (k b : ℕ) → fact b ≤ fact (k + b)
+fact-more zero b = rw (zero-add b) (omega arith)
+fact-more (suc k) b = rw (suc-add k b) (omega (arith, fact-more k b, fact-grows (k + b)))
+
+fact-most : (b c : ℕ) → b ≤ c → fact b ≤ fact c
+fact-most b c h =
+    let e : c - b + b ≡ c = omega arith in
+    rw e at (fact-more (c - b) b)
+
+pub fact-five : (b : ℕ) → b ≤ 5 → fact b ≤ 120
+unfolding fact
+fact-five b h = fact-most b 5 h
+
 pub fact-six : (b : ℕ) → b ≤ 6 → fact b ≤ 720
 unfolding fact
-fact-six zero h = omega arith
-fact-six (suc zero) h = omega arith
-fact-six (suc (suc zero)) h = omega arith
-fact-six (suc (suc (suc zero))) h = omega arith
-fact-six (suc (suc (suc (suc zero)))) h = omega arith
-fact-six (suc (suc (suc (suc (suc zero))))) h = omega arith
-fact-six (suc (suc (suc (suc (suc (suc zero)))))) h = omega arith
-fact-six (suc (suc (suc (suc (suc (suc (suc b))))))) h = absurd (omega arith)
+fact-six b h = fact-most b 6 h
+
+pub fact-of-five : fact 5 ≡ 120
+unfolding fact
+fact-of-five = refl
 
 -- under and spared, by where the youngest stands
 pub under-above : (q i : ℕ) → q ≤ i → under q i ≡ suc i

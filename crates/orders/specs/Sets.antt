@@ -1,22 +1,32 @@
--- Sets of ranks in lent bytes: 90 bytes for the gap after each node, a bit for each rank.
+-- Sets of ranks in lent bytes: 90 bytes for the gap after each node, a bit for each rank that a set can hold.
 use mathlib.Core.Path.{_≡_}
-use mathlib.Core.Bool.{Bool, true, false}
+use mathlib.Core.Bool.{Bool, true, false, _&&_, _||_}
 use mathlib.Core.List.{List}
 use mathlib.Core.Logic.{_⊎_}
-use Prim.Native.Nat.{ℕ, zero, suc, _+_, _*_, _/_, _%_, _^_, _<_, _≤_}
+use Prim.Native.Nat.{ℕ, zero, suc, _+_, _-_, _*_, _/_, _%_, _^_, _<_, _≤_}
 use lib.ListN.{length, getD}
-use lib.Dec.{eqb}
+use lib.Dec.{eqb, ltb, leb}
+use Rattle.rules.specs.Basic.{pick}
 
--- the ranks of a gap, and the bytes that hold them
+-- the ranks of six nets, and the bytes of a gap
 abbrev pub ranks : ℕ
 ranks = 720
 
 abbrev pub stretch : ℕ
 stretch = 90
 
--- where the bit of a rank stands in its gap's stretch
+-- a set can hold rank r: it is one of at most five nets, or the youngest of six, whose place is r / 120, has two or three above it.
+-- Six nets are open only between two streets of three tracks, and the limits let the youngest in there alone.
+unfoldable pub held : ℕ → Bool
+held r = ltb r 120 || (leb 240 r && ltb r 480)
+
+-- the word of its gap that a rank is in, 24 ranks to a word
+unfoldable pub slot : ℕ → ℕ
+slot r = pick (ltb r 120) (r / 24) (r / 24 - 5)
+
+-- where the bit of a rank stands in its gap's stretch: a word takes four bytes
 unfoldable pub address : ℕ → ℕ
-address r = r
+address r = 32 * slot r + r % 24
 
 -- bit k of bytes is 1
 unfoldable pub lit : List ℕ → ℕ → Bool
@@ -24,17 +34,17 @@ lit s k = eqb (getD s (k / 8) 0 / 2 ^ (k % 8) % 2) 1
 
 -- rank r of gap g is marked; gap g is the one after node g, from 0
 unfoldable pub marked : List ℕ → (g r : ℕ) → Bool
-marked s g r = lit s (ranks * g + address r)
+marked s g r = held r && lit s (8 * (stretch * g) + address r)
 
 -- the ranks before node g: those of the gap before it, and before node 0 rank 0 alone
 unfoldable pub source : List ℕ → (g r : ℕ) → Bool
 source s zero r = eqb r 0
 source s (suc g) r = marked s g r
 
--- the bytes have gap g, and r is a rank of it
+-- the bytes have gap g, and its set can hold rank r
 pub record Holds (s : List ℕ) (g r : ℕ) : Type 0 where
   pub gap : stretch * suc g ≤ length s
-  pub rank : r < ranks
+  pub rank : held r ≡ true
 
 -- t is s with the mark v at rank r of gap g
 pub record Set (s : List ℕ) (g r : ℕ) (v : Bool) (t : List ℕ) : Type 0 where

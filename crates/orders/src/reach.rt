@@ -12,7 +12,7 @@ ghost use mathlib.Core.Option.{some};
 ghost use Prim.Native.Nat.{suc, _*_, _≤_, _<_};
 ghost use lib.ListN.{length};
 ghost use Rattle.orders.specs.Ranks.{fact};
-ghost use Rattle.orders.specs.Sets.{stretch, source, Empty, Gains, Exactly};
+ghost use Rattle.orders.specs.Sets.{stretch, held, source, Empty, Gains, Exactly};
 ghost use Rattle.orders.specs.Stops.{Sound, hopAt};
 ghost use Rattle.orders.specs.Passes.{Leads, Reached};
 
@@ -45,7 +45,7 @@ fn fan_from(work: &mut [u8], g: usize, stop: Stop, r: usize)
 // Marks in gap g every rank that node g leads to from rank r.
 fn fan(work: &mut [u8], g: usize, stop: Stop, r: usize)
     requires { ⌜ Sound stop × (stretch * suc g ≤ length (now work)) ⌝ }
-    requires { ⌜ r < fact (stop .count) ⌝ }
+    requires { ⌜ (r < fact (stop .count)) × (held r ≡ true) ⌝ }
     ensures { λ _. ⌜ Gains (now (work .entry)) g (Leads stop r) (now (work .exit)) ⌝ }
 {
     let mut p: usize = 0;
@@ -58,7 +58,7 @@ fn fan(work: &mut [u8], g: usize, stop: Stop, r: usize)
 // Marks in gap g the rank that node g leads to from rank r at position p.
 fn leap(work: &mut [u8], g: usize, stop: Stop, r: usize, p: usize)
     requires { ⌜ Sound stop × (stretch * suc g ≤ length (now work)) ⌝ }
-    requires { ⌜ r < fact (stop .count) ⌝ }
+    requires { ⌜ (r < fact (stop .count)) × (held r ≡ true) ⌝ }
     ensures { λ _. ⌜ Gains (now (work .entry)) g (λ x. hopAt stop r p ≡ some x) (now (work .exit)) ⌝ }
 {
     let Landing::To(x) = hop(stop, r, p) else {

@@ -3,9 +3,9 @@ ghost use mathlib.Core.Path.{_≡_};
 ghost use mathlib.Core.Bool.{true, false, not};
 ghost use Prim.Native.Nat.{suc, _*_, _≤_, _<_};
 ghost use lib.ListN.{length};
-ghost use Rattle.orders.specs.Sets.{address, marked, source, Holds, Set, Bare, Clear, ranks, stretch};
+ghost use Rattle.orders.specs.Sets.{held, address, marked, source, Holds, Set, Bare, Clear, stretch};
 
-// The ranks of a gap.
+// The ranks of six nets.
 pub const RANKS: usize = 720;
 
 // The bytes of a gap.
@@ -13,9 +13,12 @@ pub const STRETCH: usize = 90;
 
 // Whether rank r of gap g is marked.
 pub fn is_marked(work: &[u8], g: usize, r: usize) -> bool
-    requires { ⌜ Holds (now work) g r ⌝ }
+    requires { ⌜ stretch * suc g ≤ length (now work) ⌝ }
     ensures { λ t. ⌜ t ≡ marked (now (work .entry)) g r ⌝ }
 {
+    if !can_hold(r) {
+        return false;
+    }
     let k = place(r);
     let i = STRETCH * g + k / 8;
     (work[i] >> (k % 8)) % 2 == 1
@@ -34,7 +37,7 @@ pub fn mark(work: &mut [u8], g: usize, r: usize)
 
 // Takes the mark of rank r of gap g away.
 pub fn unmark(work: &mut [u8], g: usize, r: usize)
-    requires { ⌜ Holds (now work) g r ⌝ }
+    requires { ⌜ stretch * suc g ≤ length (now work) ⌝ }
     ensures { λ _. ⌜ Set (now (work .entry)) g r false (now (work .exit)) ⌝ }
 {
     if is_marked(work, g, r) {
@@ -53,17 +56,33 @@ fn turn(work: &mut [u8], g: usize, r: usize)
     work[i] = work[i] ^ bit;
 }
 
+// Whether a set can hold rank r.
+fn can_hold(r: usize) -> bool
+    ensures { λ t. ⌜ t ≡ held r ⌝ }
+{
+    if r < 120 {
+        return true;
+    }
+    if r < 240 {
+        return false;
+    }
+    r < 480
+}
+
 // Where the bit of a rank stands in its gap's stretch.
 fn place(r: usize) -> usize
-    requires { ⌜ r < ranks ⌝ }
+    requires { ⌜ held r ≡ true ⌝ }
     ensures { λ k. ⌜ k ≡ address r ⌝ }
 {
-    r
+    if r < 120 {
+        return 32 * (r / 24) + r % 24;
+    }
+    32 * (r / 24 - 5) + r % 24
 }
 
 // Whether rank r is one before node g.
 pub fn is_source(work: &[u8], g: usize, r: usize) -> bool
-    requires { ⌜ (stretch * g ≤ length (now work)) × (r < ranks) ⌝ }
+    requires { ⌜ stretch * g ≤ length (now work) ⌝ }
     ensures { λ t. ⌜ t ≡ source (now (work .entry)) g r ⌝ }
 {
     if g == 0 {

@@ -26,15 +26,7 @@ returns c =
     misses-none (g .stop) (g .work .now) (g .g) (g .r) (told-nowhere o (sym (c .enum-told .given .1) ∙ c .before .before .hop .ensures))
 
 is-marked-requires : tie.Need-is-marked-requires
-is-marked-requires c κs =
-    let g = c .before .before .before .before .before in
-    let x = c .before .x .given in
-    let o = hopAt (g .args .stop) (g .args .r) (g .args .p) in
-    record {
-      gap = g .pre .0 .1;
-      rank = stop-lands (g .args .stop) (g .args .r) (g .args .p) (x .0 .0) (g .pre .0 .0) (g .pre .1)
-          (told-to o (x .0 .0) (sym (x .1) ∙ c .before .before .before .hop .ensures)) .1;
-    }
+is-marked-requires c κs = search needs
 
 returns-2 : tie.Need-returns-2
 returns-2 c =

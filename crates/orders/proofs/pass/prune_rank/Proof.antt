@@ -4,16 +4,13 @@ use Prim.Native.Nat.{suc, _+_}
 use native.Mathlib.Numerals.{add-one}
 use native.Mathlib.Omega.{arith}
 use borrow.Author.Tests.{not-true}
-use Rattle.orders.proofs.Ranks.{fact-six}
 use Rattle.orders.proofs.Pruning.{rank-absent, rank-goes, rank-stuck}
 use borrow.Author.Needs.{needs}
 use Rattle.orders.proofs.pass.prune_rank.Statement.{statement}
 use Rattle.orders.proofs.pass.prune_rank.Tie as tie
 
 is-marked-requires : tie.Need-is-marked-requires
-is-marked-requires c κs =
-    let g = c .before .before in
-    record { gap = omega (arith, g .pre .0 .1); rank = omega (arith, g .pre .1, fact-six (g .args .stop .count) (g .pre .0 .0 .few)) }
+is-marked-requires c κs = search needs
 
 same-length : tie.Need-same-length
 same-length c = search needs
@@ -49,9 +46,7 @@ returns-2 c =
     (rw (w .1) at (c .before .before .choose .ensures))
 
 unmark-requires : tie.Need-unmark-requires
-unmark-requires c κs =
-    let g = c .before .before .before .before .before .before .before .before .before in
-    record { gap = omega (arith, g .pre .0 .1); rank = omega (arith, g .pre .1, fact-six (g .args .stop .count) (g .pre .0 .0 .few)) }
+unmark-requires c κs = search needs
 
 same-length-3 : tie.Need-same-length-3
 same-length-3 c = search needs

@@ -43,7 +43,7 @@ returns : tie.Need-returns Inv-loop μ-loop
 returns c =
     let g = c .before .before .before in
     let l = c .before .loop in
-    fan-end (g .args .work .now) (g .args .g) (g .args .stop) (g .args .r) (l .p) (l .work) (g .pre .0 .0) (g .pre .1)
+    fan-end (g .args .work .now) (g .args .g) (g .args .stop) (g .args .r) (l .p) (l .work) (g .pre .0 .0) (g .pre .1 .0)
     (c .loop-test .left) (l .inv)
 
 pub fan-spec : {M : Type 1} → statement M

@@ -1,19 +1,19 @@
 -- `orders::reach::fan_from` meets its contract: a rank that is none before the node marks nothing.
 use mathlib.Core.Path.{sym, _∙_}
-use native.Mathlib.Omega.{arith}
-use Rattle.orders.proofs.Ranks.{fact-six}
+use Rattle.orders.proofs.Bits.{source-held}
 use Rattle.orders.proofs.Spreading.{fan-unless, fan-where}
 use borrow.Author.Needs.{needs}
 use Rattle.orders.proofs.reach.fan_from.Statement.{statement}
 use Rattle.orders.proofs.reach.fan_from.Tie as tie
 
 is-source-requires : tie.Need-is-source-requires
-is-source-requires c κs =
-    let g = c .before .before in
-    (omega (arith, g .pre .0 .1), omega (arith, g .pre .1, fact-six (g .args .stop .count) (g .pre .0 .0 .few)))
+is-source-requires c κs = search needs
 
 fan-requires : tie.Need-fan-requires
-fan-requires c κs = search needs
+fan-requires c κs =
+    let g = c .before .before .before .before .before in
+    let e = sym (c .before .before .is-source .ensures) ∙ c .before .if1 .taken in
+    (g .pre .0, (g .pre .1, source-held (g .args .work .now) (g .args .g) (g .args .r) e))
 
 same-length : tie.Need-same-length
 same-length c = search needs

@@ -1,6 +1,6 @@
 -- `orders::reach::leap` meets its contract: what the hop tells is marked.
 use mathlib.Core.Path.{sym, _∙_}
-use Rattle.orders.proofs.Hops.{told-to, told-nowhere, stop-lands}
+use Rattle.orders.proofs.Hops.{told-to, told-nowhere, stop-held}
 use Rattle.orders.proofs.Spreading.{leap-to, leap-nowhere}
 use Rattle.orders.specs.Stops.{hopAt}
 use borrow.Author.Needs.{needs}
@@ -29,8 +29,8 @@ mark-requires c κs =
     let o = hopAt (g .args .stop) (g .args .r) (g .args .p) in
     record {
       gap = g .pre .0 .1;
-      rank = stop-lands (g .args .stop) (g .args .r) (g .args .p) (x .0 .0) (g .pre .0 .0) (g .pre .1)
-          (told-to o (x .0 .0) (sym (x .1) ∙ c .before .before .before .before .hop .ensures)) .1;
+      rank = stop-held (g .args .stop) (g .args .r) (g .args .p) (x .0 .0) (g .pre .0 .0) (g .pre .1 .0) (g .pre .1 .1)
+          (told-to o (x .0 .0) (sym (x .1) ∙ c .before .before .before .before .hop .ensures));
     }
 
 same-length : tie.Need-same-length

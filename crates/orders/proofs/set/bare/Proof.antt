@@ -19,7 +19,7 @@ loop-holds : tie.Need-loop-holds Inv-loop μ-loop
 loop-holds c = (omega arith, λ x h. absurd (omega arith))
 
 is-marked-requires : tie.Need-is-marked-requires Inv-loop μ-loop
-is-marked-requires c κs = record { gap = c .before .before .before .pre; rank = c .loop-test .taken }
+is-marked-requires c κs = c .before .before .before .pre
 
 returns : tie.Need-returns Inv-loop μ-loop
 returns c =

@@ -1,7 +1,7 @@
 -- `orders::set::unmark` meets its contract: a mark that is there is turned over.
 use mathlib.Core.Path.{sym, _∙_}
 use mathlib.Core.Bool.{true, false}
-use Rattle.orders.proofs.Bits.{set-already, set-turned}
+use Rattle.orders.proofs.Bits.{marked-held, set-already, set-turned}
 use borrow.Author.Needs.{needs}
 use Rattle.orders.proofs.set.unmark.Statement.{statement}
 use Rattle.orders.proofs.set.unmark.Tie as tie
@@ -10,7 +10,10 @@ is-marked-requires : tie.Need-is-marked-requires
 is-marked-requires c κs = search needs
 
 turn-requires : tie.Need-turn-requires
-turn-requires c κs = search needs
+turn-requires c κs =
+    let g = c .before .before .before .before .before in
+    let e = sym (c .before .before .is-marked .ensures) ∙ c .before .if1 .taken in
+    record { gap = g .pre; rank = marked-held (g .args .work .now) (g .args .g) (g .args .r) e }
 
 same-length : tie.Need-same-length
 same-length c = search needs
