@@ -1,110 +1,37 @@
--- A bit that is turned over changes no other bit, and each rank of each gap has a bit of its own.
-use mathlib.Core.Path.{_≡_, refl, sym, ap, ap₂, _∙_}
+-- A mark that is turned over changes no other, and each rank that a set can hold has a bit of its own.
+use mathlib.Core.Path.{_≡_, refl, sym, ap, _∙_}
 use mathlib.Core.Bool.{Bool, true, false, not}
 use mathlib.Core.List.{List}
-use Prim.Native.Nat.{ℕ, zero, suc, _+_, _-_, _*_, _/_, _%_, _^_, _≤_, _<_}
-use native.Mathlib.Nat.{div-self, div-eq-of-lt, zero-div, one-mul}
+use Prim.Native.Nat.{ℕ, zero, suc, _+_, _*_, _/_, _%_, _^_, _≤_, _<_}
+use native.Mathlib.Nat.{one-mul}
 use native.Mathlib.Omega.{arith}
-use lib.ListN.{length, getD, set, length-set, List·getD-eq-default}
+use lib.ListN.{length, getD, set, List·getD-eq-default}
 use lib.Seq.{getD-set-same, getD-set-other}
-use lib.Bits.{bitXor, differ, xor-shr, xor-step, shifted-even}
-use lib.Pow.{pow-pos, pow-lt, pow-add, shl-shr, shl-exact}
+use lib.Bits.{bitXor}
+use lib.Pow.{shl-exact}
 use lib.Dec.{eqb, ltb}
 use borrow.Author.Tests.{ltb-true, ltb-false, eqb-true, eqb-false}
-use Rattle.orders.specs.Sets.{ranks, stretch, held, address, lit, marked, source, Holds, Set}
-use Rattle.orders.proofs.Slots.{spot-one, spot-inside, held-few}
-
--- the bits of a power of two
-power-own : (n : ℕ) → 2 ^ n / 2 ^ n % 2 ≡ 1
-power-own n = ap (λ (q : ℕ). q % 2) (div-self (pow-pos n))
-
-power-other : (m n : ℕ) → (n ≡ m → ⊥) → 2 ^ m / 2 ^ n % 2 ≡ 0
-power-other m n f = go (ltb m n) refl
-  where
-    go : (t : Bool) → ltb m n ≡ t → 2 ^ m / 2 ^ n % 2 ≡ 0
-    go true e = ap (λ (q : ℕ). q % 2) (div-eq-of-lt (pow-lt (ltb-true m n e)))
-    go false e =
-        let l : n ≤ m = ltb-false m n e in
-        let d : m ≡ suc (m - n - 1) + n = omega (arith, f) in
-        let w : 2 ^ m ≡ 2 ^ suc (m - n - 1) * 2 ^ n = ap (λ (q : ℕ). 2 ^ q) d ∙ pow-add 2 (suc (m - n - 1)) n in
-        ap (λ (q : ℕ). q / 2 ^ n % 2) w ∙ ap (λ (q : ℕ). q % 2) (shl-shr (2 ^ suc (m - n - 1)) n) ∙
-        ap (λ (q : ℕ). q % 2) (sym (one-mul (2 ^ suc (m - n - 1)))) ∙ shifted-even 1 (m - n - 1)
-
-differ-none : (x : ℕ) → differ x 0 ≡ x
-differ-none zero = refl
-differ-none (suc x) = refl
-
-differ-one : (x : ℕ) → x < 2 → differ x 1 ≡ 1 - x
-differ-one zero h = refl
-differ-one (suc zero) h = refl
-differ-one (suc (suc x)) h = absurd (omega arith)
-
--- the low bit of two numbers that differ in it or not
-low-same : (a b : ℕ) → b % 2 ≡ 0 → bitXor a b % 2 ≡ a % 2
-low-same a b e =
-    let w : bitXor a b ≡ bitXor (a / 2) (b / 2) * 2 + a % 2 = xor-step a b ∙ ap
-    (λ (d : ℕ). bitXor (a / 2) (b / 2) * 2 + differ (a % 2) d) e ∙ ap (λ (d : ℕ). bitXor (a / 2) (b / 2) * 2 + d)
-    (differ-none (a % 2)) in
-    omega arith
-
-low-turned : (a b : ℕ) → b % 2 ≡ 1 → bitXor a b % 2 ≡ 1 - a % 2
-low-turned a b e =
-    let w : bitXor a b ≡ bitXor (a / 2) (b / 2) * 2 + (1 - a % 2) = xor-step a b ∙ ap
-    (λ (d : ℕ). bitXor (a / 2) (b / 2) * 2 + differ (a % 2) d) e ∙ ap (λ (d : ℕ). bitXor (a / 2) (b / 2) * 2 + d)
-    (differ-one (a % 2) (omega arith)) in
-    omega arith
-
--- bytes with bit k turned over
-abbrev pub turned : List ℕ → ℕ → List ℕ
-turned s k = set s (k / 8) (bitXor (getD s (k / 8) 0) (2 ^ (k % 8)))
-
-turn-one : (d : ℕ) → d < 2 → eqb (1 - d) 1 ≡ not (eqb d 1)
-turn-one zero h = refl
-turn-one (suc zero) h = refl
-turn-one (suc (suc d)) h = absurd (omega arith)
-
-pub lit-own : (s : List ℕ) (k : ℕ) → k / 8 < length s → lit (turned s k) k ≡ not (lit s k)
-unfolding lit
-lit-own s k h =
-    let x : ℕ = getD s (k / 8) 0 in
-    let n : ℕ = k % 8 in
-    rw (getD-set-same s (k / 8) (bitXor x (2 ^ n)) 0 h)
-    (ap (λ (d : ℕ). eqb d 1)
-    (ap (λ (d : ℕ). d % 2) (xor-shr x (2 ^ n) n) ∙ low-turned (x / 2 ^ n) (2 ^ n / 2 ^ n) (power-own n)) ∙
-    turn-one (x / 2 ^ n % 2) (omega arith))
-
-pub lit-other : (s : List ℕ) (k j : ℕ) → k / 8 < length s → (j ≡ k → ⊥) → lit (turned s k) j ≡ lit s j
-unfolding lit
-lit-other s k j h f = go (eqb (j / 8) (k / 8)) refl
-  where
-    x : ℕ
-    x = getD s (k / 8) 0
-
-    go : (t : Bool) → eqb (j / 8) (k / 8) ≡ t → lit (turned s k) j ≡ lit s j
-    go true e =
-        let same : j / 8 ≡ k / 8 = eqb-true (j / 8) (k / 8) e in
-        let n : j % 8 ≡ k % 8 → ⊥ = λ m. f (omega arith) in
-        rw same
-        (rw (getD-set-same s (k / 8) (bitXor (getD s (k / 8) 0) (2 ^ (k % 8))) 0 h)
-        (ap (λ (d : ℕ). eqb d 1)
-        (ap (λ (d : ℕ). d % 2) (xor-shr (getD s (k / 8) 0) (2 ^ (k % 8)) (j % 8)) ∙
-        low-same (getD s (k / 8) 0 / 2 ^ (j % 8)) (2 ^ (k % 8) / 2 ^ (j % 8)) (power-other (k % 8) (j % 8) n))))
-    go false e =
-        ap (λ (d : ℕ). eqb (d / 2 ^ (j % 8) % 2) 1)
-        (getD-set-other s (k / 8) (j / 8) (bitXor (getD s (k / 8) 0) (2 ^ (k % 8))) 0 (eqb-false (j / 8) (k / 8) e))
+use Rattle.orders.specs.Sets.{ranks, stretch, held, slot, fourAt, wordAt, bit, marked, source, Written, Set}
+use Rattle.orders.proofs.Slots.{held-few, slot-below, slot-one}
+use Rattle.orders.proofs.Words.{bit-turned, bit-unturned, bit-zero}
 
 pub not-both : {t : Bool} → t ≡ false → t ≡ true → ⊥
 not-both f e = let z : _≡_ {A = ℕ} 0 1 = cc in omega arith
 
 -- a rank's mark is its bit, where a set can hold it, and none where not
 module _ (s : List ℕ) (g r : ℕ) where
-  pub marked-lit : held r ≡ true → marked s g r ≡ lit s (8 * (stretch * g) + address r)
+  pub marked-bit : held r ≡ true → marked s g r ≡ bit (wordAt s g (slot r)) (r % 24)
   unfolding marked
-  marked-lit h = rw h
+  marked-bit h = rw h
 
   pub marked-none : held r ≡ false → marked s g r ≡ false
   unfolding marked
   marked-none h = rw h
+
+  -- as the code reads it
+  pub marked-read : (k w : ℕ) → held r ≡ true → k ≡ slot r → w ≡ wordAt s g k → eqb (w / 2 ^ (r % 24) % 2) 1 ≡ marked s g r
+  unfolding bit
+  marked-read k w h e d = rw (marked-bit h, d, e)
 
   pub marked-held : marked s g r ≡ true → held r ≡ true
   marked-held e = go (held r) refl
@@ -113,26 +40,44 @@ module _ (s : List ℕ) (g r : ℕ) where
       go true h = refl
       go false h = absurd (not-both (marked-none h) e)
 
--- marks are the same where bits are
-pub marked-same : (s t : List ℕ) (g r : ℕ) → (held r ≡ true → lit t (8 * (stretch * g) + address r) ≡ lit s (8 * (stretch * g) + address r)) →
-    marked t g r ≡ marked s g r
+-- marks are the same where the bits of words are
+pub marked-same : (s t : List ℕ) (g r : ℕ) →
+    (held r ≡ true → bit (wordAt t g (slot r)) (r % 24) ≡ bit (wordAt s g (slot r)) (r % 24)) → marked t g r ≡ marked s g r
 marked-same s t g r f = go (held r) refl
   where
     go : (b : Bool) → held r ≡ b → marked t g r ≡ marked s g r
-    go true h = marked-lit t g r h ∙ f h ∙ sym (marked-lit s g r h)
+    go true h = marked-bit t g r h ∙ f h ∙ sym (marked-bit s g r h)
     go false h = marked-none t g r h ∙ sym (marked-none s g r h)
 
 -- turning a rank's bit over
-pub turn-set : (s : List ℕ) (g r : ℕ) → Holds s g r → Set s g r (not (marked s g r)) (turned s (8 * (stretch * g) + address r))
-turn-set s g r h =
-    let k : ℕ = 8 * (stretch * g) + address r in
-    let i = spot-inside s g r (h .gap) (h .rank) in
+pub turn-set : (s : List ℕ) (g r : ℕ) (t : List ℕ) → held r ≡ true →
+    Written s g (slot r) (bitXor (wordAt s g (slot r)) (2 ^ (r % 24))) t → Set s g r (not (marked s g r)) t
+turn-set s g r t h w =
     record {
-      long = length-set s (k / 8) (bitXor (getD s (k / 8) 0) (2 ^ (k % 8)));
-      own = marked-lit (turned s k) g r (h .rank) ∙ lit-own s k i ∙ ap not (sym (marked-lit s g r (h .rank)));
-      others = λ y x l f. marked-same s (turned s k) y x
-          (λ m. lit-other s k (8 * (stretch * y) + address x) i (λ e. let n = spot-one y x g r m (h .rank) e in f (n .0) (n .1)));
+      long = w .long;
+      own = marked-bit t g r h ∙ ap (λ (v : ℕ). bit v (r % 24)) (w .own) ∙ bit-turned (wordAt s g (slot r)) (r % 24) ∙
+          ap not (sym (marked-bit s g r h));
+      others = λ y x l f. marked-same s t y x (λ m. other y x m f (eqb y g) (eqb (slot x) (slot r)) refl refl);
     }
+  where
+    other : (y x : ℕ) → held x ≡ true → (y ≡ g → x ≡ r → ⊥) → (a b : Bool) → eqb y g ≡ a → eqb (slot x) (slot r) ≡ b →
+        bit (wordAt t y (slot x)) (x % 24) ≡ bit (wordAt s y (slot x)) (x % 24)
+    other y x m f false b ea eb =
+        ap (λ (v : ℕ). bit v (x % 24)) (w .others y (slot x) (slot-below x m) (λ e d. eqb-false y g ea e))
+    other y x m f true false ea eb =
+        ap (λ (v : ℕ). bit v (x % 24)) (w .others y (slot x) (slot-below x m) (λ e d. eqb-false (slot x) (slot r) eb d))
+    other y x m f true true ea eb =
+        let p : y ≡ g = eqb-true y g ea in
+        let q : slot x ≡ slot r = eqb-true (slot x) (slot r) eb in
+        rw (p, q) (ap (λ (v : ℕ). bit v (x % 24)) (w .own) ∙
+        bit-unturned (wordAt s g (slot r)) (r % 24) (x % 24) (λ e. f p (slot-one x r m h q e)))
+
+-- as the code turns it
+pub turn-put : (s : List ℕ) (g r : ℕ) (t : List ℕ) (k w : ℕ) → held r ≡ true → k ≡ slot r → w ≡ wordAt s g k →
+    Written s g k (bitXor w (1 * 2 ^ (r % 24) % 4294967296)) t → Set s g r (not (marked s g r)) t
+turn-put s g r t k w h ek ew p =
+    let e : 1 * 2 ^ (r % 24) % 4294967296 ≡ 2 ^ (r % 24) = shl-exact 1 (r % 24) 32 (omega arith) (omega arith) ∙ one-mul (2 ^ (r % 24)) in
+    turn-set s g r t h (rw (e, ew, ek) at p)
 
 -- a mark turned over where it is known
 pub set-turned : (s : List ℕ) (g r : ℕ) (v : Bool) (t : List ℕ) → Set s g r (not (marked s g r)) t → marked s g r ≡ v →
@@ -158,37 +103,15 @@ pub set-already : (s : List ℕ) (g r : ℕ) (v : Bool) → marked s g r ≡ v �
 set-already s g r v e = record { long = refl; own = e; others = λ h x l f. refl }
 
 -- bytes that are 0 have no mark
+clear-word : (s : List ℕ) → ((i : ℕ) → getD s i 0 ≡ 0) → (g k : ℕ) → wordAt s g k ≡ 0
+unfolding wordAt fourAt
+clear-word s z g k =
+    let i : ℕ = stretch * g + 4 * k in
+    omega (arith, z i, z (i + 1), z (i + 2), z (i + 3))
+
 pub clear-empty : (s : List ℕ) → ((i : ℕ) → getD s i 0 ≡ 0) → (g x : ℕ) → marked s g x ≡ true → ⊥
-unfolding lit
 clear-empty s z g x e =
-    let k : ℕ = 8 * (stretch * g) + address x in
-    let w : getD s (k / 8) 0 / 2 ^ (k % 8) % 2 ≡ 0 = ap (λ (d : ℕ). d / 2 ^ (k % 8) % 2) (z (k / 8)) ∙ ap (λ (d : ℕ). d % 2)
-    (zero-div (2 ^ (k % 8))) in
-    let o : getD s (k / 8) 0 / 2 ^ (k % 8) % 2 ≡ 1 =
-    eqb-true (getD s (k / 8) 0 / 2 ^ (k % 8) % 2) 1 (sym (marked-lit s g x (marked-held s g x e)) ∙ e) in
-    omega arith
-
--- a rank's byte and bit, as the code finds them
-module _ (s : List ℕ) (g r k : ℕ) (e : k ≡ address r) where
-  byte-at : stretch * g + k / 8 ≡ (8 * (stretch * g) + address r) / 8
-  byte-at = omega arith
-
-  bit-at : k % 8 ≡ (8 * (stretch * g) + address r) % 8
-  bit-at = omega arith
-
-  pub byte-inside : stretch * suc g ≤ length s → held r ≡ true → stretch * g + k / 8 < length s
-  byte-inside hg hr = omega (arith, spot-inside s g r hg hr, byte-at)
-
-  pub marked-at : held r ≡ true → eqb (getD s (stretch * g + k / 8) 0 / 2 ^ (k % 8) % 2) 1 ≡ marked s g r
-  unfolding lit
-  marked-at h = ap₂ (λ (i n : ℕ). eqb (getD s i 0 / 2 ^ n % 2) 1) byte-at bit-at ∙ sym (marked-lit s g r h)
-
-  pub turned-at : set s (stretch * g + k / 8) (bitXor (getD s (stretch * g + k / 8) 0) (1 * 2 ^ (k % 8) % 256)) ≡ turned s (8 * (stretch * g) + address r)
-  turned-at =
-      let n : ℕ = k % 8 in
-      let w : 1 * 2 ^ n % 256 ≡ 2 ^ n = shl-exact 1 n 8 (omega arith) (omega arith) ∙ one-mul (2 ^ n) in
-      ap (λ (v : ℕ). set s (stretch * g + k / 8) (bitXor (getD s (stretch * g + k / 8) 0) v)) w ∙
-      ap₂ (λ (i m : ℕ). set s i (bitXor (getD s i 0) (2 ^ m))) byte-at bit-at
+    not-both (marked-bit s g x (marked-held s g x e) ∙ ap (λ (v : ℕ). bit v (x % 24)) (clear-word s z g (slot x)) ∙ bit-zero (x % 24)) e
 
 -- the first i bytes are 0, and one more is cleared
 pub clear-more : (s : List ℕ) (i : ℕ) → i < length s → ((j : ℕ) → j < i → getD s j 0 ≡ 0) → (j : ℕ) → j < i + 1 →

@@ -1,5 +1,6 @@
 pub mod Ranks
 pub mod Slots
+pub mod Words
 pub mod Hops
 pub mod Bits
 pub mod Gains

@@ -1,15 +1,13 @@
--- The ranks that a set can hold, and where their bits stand: a hop leads from one that can be held to one that can, and no two share a bit.
+-- The ranks that a set can hold, and the words that they are in: no two share a bit of a word.
 use mathlib.Core.Path.{_≡_, refl, _∙_}
 use mathlib.Core.Bool.{Bool, true, false, _&&_, _||_}
-use mathlib.Core.List.{List}
 use mathlib.Core.Logic.{_⊎_, inl, inr, ⊎-elim}
-use Prim.Native.Nat.{ℕ, suc, _+_, _-_, _*_, _/_, _%_, _≤_, _<_}
+use Prim.Native.Nat.{ℕ, _-_, _/_, _%_, _≤_, _<_}
 use native.Mathlib.Omega.{arith}
-use lib.ListN.{length}
 use lib.Dec.{leb, ltb}
 use borrow.Author.Tests.{ltb-true, leb-true, lt-ltb, le-ltb, le-leb, lt-leb}
 use Rattle.rules.specs.Basic.{pick}
-use Rattle.orders.specs.Sets.{stretch, held, slot, address}
+use Rattle.orders.specs.Sets.{slots, held, slot}
 
 -- the rank is one of five nets, or of six with the youngest in the middle
 pub held-cases : (r : ℕ) → held r ≡ true → (r < 120) ⊎ ((240 ≤ r) × (r < 480))
@@ -49,14 +47,6 @@ module _ (r : ℕ) where
   unfolding slot pick
   slot-middle h = rw (le-ltb r 120 h)
 
-  pub address-few : r < 120 → 32 * (r / 24) + r % 24 ≡ address r
-  unfolding address
-  address-few h = omega (arith, slot-few h)
-
-  pub address-middle : 120 ≤ r → 32 * (r / 24 - 5) + r % 24 ≡ address r
-  unfolding address
-  address-middle h = omega (arith, slot-middle h)
-
 -- the words of five nets are the first five, those of six the next ten
 pub slot-cases : (r : ℕ) → held r ≡ true → ((r < 120) × (slot r ≡ r / 24)) ⊎ ((240 ≤ r) × (r < 480) × (slot r ≡ r / 24 - 5))
 slot-cases r e = go (held-cases r e)
@@ -65,10 +55,10 @@ slot-cases r e = go (held-cases r e)
     go (inl h) = inl (h, slot-few r h)
     go (inr (l, h)) = inr (l, h, slot-middle r (omega arith))
 
-pub slot-below : (r : ℕ) → held r ≡ true → slot r < 15
+pub slot-below : (r : ℕ) → held r ≡ true → slot r < slots
 slot-below r e = go (slot-cases r e)
   where
-    go : ((r < 120) × (slot r ≡ r / 24)) ⊎ ((240 ≤ r) × (r < 480) × (slot r ≡ r / 24 - 5)) → slot r < 15
+    go : ((r < 120) × (slot r ≡ r / 24)) ⊎ ((240 ≤ r) × (r < 480) × (slot r ≡ r / 24 - 5)) → slot r < slots
     go (inl h) = omega arith
     go (inr h) = omega arith
 
@@ -81,21 +71,3 @@ slot-one r x hr hx e m = go (slot-cases r hr) (slot-cases x hx)
     go (inl a) (inr b) = omega arith
     go (inr a) (inl b) = omega arith
     go (inr a) (inr b) = omega arith
-
--- the bits of gaps do not overlap
-pub address-below : (r : ℕ) → held r ≡ true → address r < 480
-unfolding address
-address-below r h = omega (arith, slot-below r h)
-
-pub address-one : (r x : ℕ) → held r ≡ true → held x ≡ true → address r ≡ address x → r ≡ x
-unfolding address
-address-one r x hr hx e = slot-one r x hr hx (omega arith) (omega arith)
-
-pub spot-one : (g r h x : ℕ) → held r ≡ true → held x ≡ true →
-    8 * (stretch * g) + address r ≡ 8 * (stretch * h) + address x → (g ≡ h) × (r ≡ x)
-spot-one g r h x hr hx e =
-    let hg : g ≡ h = omega (arith, address-below r hr, address-below x hx) in
-    (hg, address-one r x hr hx (omega arith))
-
-pub spot-inside : (s : List ℕ) (g r : ℕ) → stretch * suc g ≤ length s → held r ≡ true → (8 * (stretch * g) + address r) / 8 < length s
-spot-inside s g r hg hr = omega (arith, address-below r hr)

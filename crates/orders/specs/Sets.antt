@@ -20,26 +20,39 @@ stretch = 90
 unfoldable pub held : ℕ → Bool
 held r = ltb r 120 || (leb 240 r && ltb r 480)
 
--- the word of its gap that a rank is in, 24 ranks to a word
+-- the words of a gap, 24 ranks to a word, and the one that a rank is in
+abbrev pub slots : ℕ
+slots = 15
+
 unfoldable pub slot : ℕ → ℕ
 slot r = pick (ltb r 120) (r / 24) (r / 24 - 5)
 
--- where the bit of a rank stands in its gap's stretch: a word takes four bytes
-unfoldable pub address : ℕ → ℕ
-address r = 32 * slot r + r % 24
+-- the number that four bytes from place i on tell, the lowest first
+unfoldable pub fourAt : List ℕ → ℕ → ℕ
+fourAt s i = getD s i 0 + 256 * (getD s (i + 1) 0 + 256 * (getD s (i + 2) 0 + 256 * getD s (i + 3) 0))
 
--- bit k of bytes is 1
-unfoldable pub lit : List ℕ → ℕ → Bool
-lit s k = eqb (getD s (k / 8) 0 / 2 ^ (k % 8) % 2) 1
+-- the word in slot k of gap g; gap g is the one after node g, from 0
+unfoldable pub wordAt : List ℕ → (g k : ℕ) → ℕ
+wordAt s g k = fourAt s (stretch * g + 4 * k)
 
--- rank r of gap g is marked; gap g is the one after node g, from 0
+-- bit i of a number is 1
+unfoldable pub bit : (w i : ℕ) → Bool
+bit w i = eqb (w / 2 ^ i % 2) 1
+
+-- rank r of gap g is marked
 unfoldable pub marked : List ℕ → (g r : ℕ) → Bool
-marked s g r = held r && lit s (8 * (stretch * g) + address r)
+marked s g r = held r && bit (wordAt s g (slot r)) (r % 24)
 
 -- the ranks before node g: those of the gap before it, and before node 0 rank 0 alone
 unfoldable pub source : List ℕ → (g r : ℕ) → Bool
 source s zero r = eqb r 0
 source s (suc g) r = marked s g r
+
+-- t is s with the word w in slot k of gap g
+pub record Written (s : List ℕ) (g k w : ℕ) (t : List ℕ) : Type 0 where
+  pub long : length t ≡ length s
+  pub own : wordAt t g k ≡ w
+  pub others : (h j : ℕ) → j < slots → (h ≡ g → j ≡ k → ⊥) → wordAt t h j ≡ wordAt s h j
 
 -- the bytes have gap g, and its set can hold rank r
 pub record Holds (s : List ℕ) (g r : ℕ) : Type 0 where

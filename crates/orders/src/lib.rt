@@ -3,3 +3,4 @@ pub mod pass;
 pub mod rank;
 pub mod reach;
 pub mod set;
+pub mod word;

@@ -1,15 +1,14 @@
 // Sets of ranks in lent bytes: 90 bytes for the gap after each node.
+use crate::word::put_word;
+use crate::word::word;
 ghost use mathlib.Core.Path.{_≡_};
 ghost use mathlib.Core.Bool.{true, false, not};
 ghost use Prim.Native.Nat.{suc, _*_, _≤_, _<_};
 ghost use lib.ListN.{length};
-ghost use Rattle.orders.specs.Sets.{held, address, marked, source, Holds, Set, Bare, Clear, stretch};
+ghost use Rattle.orders.specs.Sets.{stretch, slots, held, slot, marked, source, Holds, Set, Bare, Clear};
 
 // The ranks of six nets.
 pub const RANKS: usize = 720;
-
-// The bytes of a gap.
-pub const STRETCH: usize = 90;
 
 // Whether rank r of gap g is marked.
 pub fn is_marked(work: &[u8], g: usize, r: usize) -> bool
@@ -19,9 +18,7 @@ pub fn is_marked(work: &[u8], g: usize, r: usize) -> bool
     if !can_hold(r) {
         return false;
     }
-    let k = place(r);
-    let i = STRETCH * g + k / 8;
-    (work[i] >> (k % 8)) % 2 == 1
+    (word(work, g, place(r)) >> (r % 24)) % 2 == 1
 }
 
 // Marks rank r of gap g.
@@ -51,9 +48,8 @@ fn turn(work: &mut [u8], g: usize, r: usize)
     ensures { λ _. ⌜ Set (now (work .entry)) g r (not (marked (now (work .entry)) g r)) (now (work .exit)) ⌝ }
 {
     let k = place(r);
-    let i = STRETCH * g + k / 8;
-    let bit = 1u8 << (k % 8);
-    work[i] = work[i] ^ bit;
+    let w = word(work, g, k);
+    put_word(work, g, k, w ^ (1u32 << (r % 24)));
 }
 
 // Whether a set can hold rank r.
@@ -69,15 +65,15 @@ fn can_hold(r: usize) -> bool
     r < 480
 }
 
-// Where the bit of a rank stands in its gap's stretch.
+// The word of its gap that a rank is in.
 fn place(r: usize) -> usize
     requires { ⌜ held r ≡ true ⌝ }
-    ensures { λ k. ⌜ k ≡ address r ⌝ }
+    ensures { λ k. ⌜ (k ≡ slot r) × (k < slots) ⌝ }
 {
     if r < 120 {
-        return 32 * (r / 24) + r % 24;
+        return r / 24;
     }
-    32 * (r / 24 - 5) + r % 24
+    r / 24 - 5
 }
 
 // Whether rank r is one before node g.
