@@ -8,12 +8,13 @@ use native.Mathlib.Omega.{arith}
 use lib.ListN.{length, getD, take}
 use borrow.Author.Tests.{eqb-true, eq-eqb}
 use Rattle.orders.specs.Plan.{Step, steps}
-use Rattle.orders.specs.Ranks.{Way}
+use Rattle.orders.specs.Ranks.{RankOf, Way}
 use Rattle.orders.specs.Sets.{ranks, marked, source, Exactly, Empty, Some, Clear}
 use Rattle.orders.specs.Stops.{stopOf}
 use Rattle.orders.specs.Passes.{Reached, Given, Filled, Passable, Forward}
 use Rattle.orders.proofs.Ranks.{fact-six}
-use Rattle.orders.proofs.Bits.{clear-empty}
+use Rattle.orders.proofs.Slots.{held-below}
+use Rattle.orders.proofs.Bits.{source-held, clear-empty}
 use Rattle.orders.proofs.Spreading.{last-or}
 use Rattle.orders.proofs.Ways.{way-start, way-none, steps-length}
 use Rattle.orders.proofs.Nodes.{way-on, way-back, stop-ready, rank-below}
@@ -53,6 +54,13 @@ module _ (ks xs cs : List ℕ) (ku kl : ℕ) (s₀ : List ℕ) (given : Given ks
         passes = record { end = 0; way = way-start ku kl };
       }
 
+  -- the ranks before the next node are those of the nets that it finds open
+  pub fills-ranks : (i : ℕ) (s : List ℕ) → i < length ks → Fills ks xs cs ku kl s₀ i s → (r : ℕ) → source s i r ≡ true →
+      RankOf (getD cs i 0) r
+  fills-ranks i s l f r e =
+      let b : r < ranks = omega (arith, held-below r (source-held s i r e)) in
+      stop-ready ks xs cs ku kl i l s₀ r given (source-way ku kl ss i s r (f .filled) b e) .1
+
   module _ (i : ℕ) (s t : List ℕ) (l : i < length ks) (f : Fills ks xs cs ku kl s₀ i s)
       (a : Exactly s i (Reached (stopOf ks xs cs ku kl i) s i) t) where
     reached-way : (x : ℕ) → Reached (stopOf ks xs cs ku kl i) s i x → Way ku kl (take (suc i) ss) x
@@ -67,7 +75,7 @@ module _ (ks xs cs : List ℕ) (ku kl : ℕ) (s₀ : List ℕ) (given : Given ks
         let (r, v, h) = way-back ks xs cs ku kl i l x w in
         record {
           rank = r;
-          below = stop-ready ks xs cs ku kl i l s₀ r given v .1;
+          below = stop-ready ks xs cs ku kl i l s₀ r given v .1 .below;
           from = way-source ku kl ss i s r (f .filled) v;
           leads = h;
         }

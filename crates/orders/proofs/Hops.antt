@@ -1,11 +1,11 @@
 -- A hop is made exactly where the street rules allow it, and leads to a rank of the nets that are then open.
-use mathlib.Core.Path.{_≡_, refl}
+use mathlib.Core.Path.{_≡_, refl, ap, _∙_}
 use mathlib.Core.Bool.{Bool, true, false, _&&_}
 use mathlib.Core.Option.{Option, none, some}
 use Prim.Native.Nat.{ℕ, zero, suc, _+_, _-_, _*_, _≤_, _<_}
 use native.Mathlib.Omega.{arith}
 use lib.Dec.{T, eqb, ltb}
-use borrow.Author.Tests.{eq-eqb, ne-eqb, ltb-true, ltb-false}
+use borrow.Author.Tests.{eqb-true, eq-eqb, ne-eqb, ltb-true, ltb-false}
 use Rattle.rules.specs.Basic.{keep}
 use Rattle.rules.specs.Street.{fits}
 use Rattle.rules.specs.Sheet.{kindIn}
@@ -105,7 +105,7 @@ unfolding keep
 kept true x y e = (refl, (cc))
 kept false x y e = let z : _≡_ {A = ℕ} 0 1 = cc in absurd (omega arith)
 
-both : (s t : Bool) → s && t ≡ true → (s ≡ true) × (t ≡ true)
+pub both : (s t : Bool) → s && t ≡ true → (s ≡ true) × (t ≡ true)
 both true t e = (refl, e)
 both false t e = let z : _≡_ {A = ℕ} 0 1 = cc in absurd (omega arith)
 
@@ -147,6 +147,20 @@ begun-held ku kl b r p hu hl l f = go (ltb b 5) refl
 ended-held : (a b r : ℕ) → b ≤ capacity → a < b → r < fact b → held (lessOf a b r) ≡ true
 ended-held a b r f h l = held-few (lessOf a b r) (omega (arith, less-lt a b r h l, fact-five (b - 1) (omega arith)))
 
+-- a touched net that is passed keeps the limits where it stands
+pub hop-met : (ku kl k a b r p x : ℕ) → k ≡ 1 → hopOf ku kl (step k a b) r p ≡ some x → (r ≡ x) × (fits ku kl (suc (atOf a b r)) b ≡ true)
+unfolding hopOf
+hop-met ku kl k a b r p x ek e = go (hop-one (rw ek at e))
+  where
+    hop-one : hopOf ku kl (step 1 a b) r p ≡ some x → (eqb p (atOf a b r) && fits ku kl (suc p) b ≡ true) × (r ≡ x)
+    hop-one f = kept (eqb p (atOf a b r) && fits ku kl (suc p) b) r x f
+
+    go : (eqb p (atOf a b r) && fits ku kl (suc p) b ≡ true) × (r ≡ x) → (r ≡ x) × (fits ku kl (suc (atOf a b r)) b ≡ true)
+    go (t, q) =
+        let (u, f) = both (eqb p (atOf a b r)) (fits ku kl (suc p) b) t in
+        let m : p ≡ atOf a b r = eqb-true p (atOf a b r) u in
+        (q, rw m at f)
+
 -- at a sound stop a hop has one of six capacity, and lands on a rank of the gap
 pub stop-lands : (t : Stop) (r p x : ℕ) → Sound t → r < fact (t .count) → hopAt t r p ≡ some x → (p < capacity) × (x < ranks)
 stop-lands t r p x h l e =
@@ -165,6 +179,21 @@ hop-held ku kl (suc zero) a b r p x hu hl f h l d e =
 hop-held ku kl (suc (suc zero)) a b r p x hu hl f h l d e =
     rw (← kept (eqb p (atOf a b r) && fits ku kl (suc p) b) (lessOf a b r) x e .1) (ended-held a b r f (h (omega arith)) l)
 hop-held ku kl (suc (suc (suc k))) a b r p x hu hl f h l d e = let z : _≡_ {A = ℕ} 0 1 = cc in absurd (omega arith)
+
+-- with six nets open after it the youngest has two or more above it, if it had before
+pub hop-middle : (ku kl k a b r p x : ℕ) → ku ≤ 3 → kl ≤ 3 → b ≤ capacity → (b ≡ capacity → 240 ≤ r) →
+    hopOf ku kl (step k a b) r p ≡ some x → left (kindIn k) b ≡ capacity → 240 ≤ x
+unfolding hopOf left kindIn
+hop-middle ku kl zero a b r p x hu hl h m e c =
+    let (t, q) = kept (fits ku kl (suc p) (suc b)) (p * fact b + r) x e in
+    let f : Fits ku kl (suc p) (suc b) = fits-fits ku kl (suc p) (suc b) t in
+    let n : fact b ≡ 120 = ap fact (omega arith) ∙ fact-of-five in
+    let y : p * 120 + r ≡ x = rw n at q in
+    omega arith
+hop-middle ku kl (suc zero) a b r p x hu hl h m e c =
+    rw (← kept (eqb p (atOf a b r) && fits ku kl (suc p) b) r x e .1) (m c)
+hop-middle ku kl (suc (suc zero)) a b r p x hu hl h m e c = absurd (omega arith)
+hop-middle ku kl (suc (suc (suc k))) a b r p x hu hl h m e c = let z : _≡_ {A = ℕ} 0 1 = cc in absurd (omega arith)
 
 pub stop-held : (t : Stop) (r p x : ℕ) → Sound t → r < fact (t .count) → held r ≡ true → hopAt t r p ≡ some x → held x ≡ true
 stop-held t r p x h = hop-held (t .ku) (t .kl) (t .kind) (t .age) (t .count) r p x (h .upper) (h .lower) (h .few) (h .touched)

@@ -5,6 +5,8 @@ pub mod Hops
 pub mod Bits
 pub mod Gains
 pub mod Ways
+pub mod Masks
+pub mod Touching
 pub mod Spreading
 pub mod Nodes
 pub mod Filling

@@ -5,7 +5,7 @@ use Prim.Native.Nat.{ℕ, suc, _<_}
 use lib.ListN.{length, getD, take, drop}
 use lib.Seq.{drop-cons}
 use Rattle.orders.specs.Plan.{Step, step, steps}
-use Rattle.orders.specs.Ranks.{fact, Way, Ahead}
+use Rattle.orders.specs.Ranks.{RankOf, Way, Ahead}
 use Rattle.orders.specs.Sets.{ranks}
 use Rattle.orders.specs.Stops.{stepOf, stopOf, Sound}
 use Rattle.orders.specs.Passes.{Leads, Given, Passable}
@@ -53,7 +53,7 @@ module _ (ks xs cs : List ℕ) (ku kl : ℕ) where
 
     -- the stop that a way comes to, and its rank there
     pub stop-ready : (w : List ℕ) (x : ℕ) → Given ks xs cs w ku kl → Way ku kl (take i ss) x →
-        Sound (stopOf ks xs cs ku kl i) × (x < fact (getD cs i 0))
+        Sound (stopOf ks xs cs ku kl i) × RankOf (getD cs i 0) x
     stop-ready w x g v =
         let r = way-ready ku kl (g .upper) (g .lower) i ss none (getD ks i 0) (getD xs i 0) (getD cs i 0) x (g .plan) inside told v in
         (record { few = r .few; touched = r .touched; upper = g .upper; lower = g .lower }, r .rank)

@@ -105,7 +105,7 @@ module _ (ks xs cs : List ℕ) (ku kl : ℕ) (s₀ : List ℕ) (given : Given ks
       x < fact (getD cs (suc g) 0)
   below-next i g s e f x h m =
       let w = fills .sound g x (omega (arith, f .node)) h (sym (f .early g x (omega arith) h) ∙ m) in
-      stop-ready ks xs cs ku kl (suc g) (omega (arith, f .node)) s₀ x given w .1
+      stop-ready ks xs cs ku kl (suc g) (omega (arith, f .node)) s₀ x given w .1 .below
 
   prunes-next : (i g : ℕ) (s t : List ℕ) → i ≡ suc (suc g) → Prunes ks xs cs ku kl s₀ i s →
       Loses s g (Onward (stopOf ks xs cs ku kl (suc g)) s (suc g)) t → Prunes ks xs cs ku kl s₀ (suc g) t

@@ -39,7 +39,7 @@ fact-more : (k b : ℕ) → fact b ≤ fact (k + b)
 fact-more zero b = rw (zero-add b) (omega arith)
 fact-more (suc k) b = rw (suc-add k b) (omega (arith, fact-more k b, fact-grows (k + b)))
 
-fact-most : (b c : ℕ) → b ≤ c → fact b ≤ fact c
+pub fact-most : (b c : ℕ) → b ≤ c → fact b ≤ fact c
 fact-most b c h =
     let e : c - b + b ≡ c = omega arith in
     rw e at (fact-more (c - b) b)
@@ -51,6 +51,14 @@ fact-five b h = fact-most b 5 h
 pub fact-six : (b : ℕ) → b ≤ 6 → fact b ≤ 720
 unfolding fact
 fact-six b h = fact-most b 6 h
+
+pub fact-of-four : fact 4 ≡ 24
+unfolding fact
+fact-of-four = refl
+
+pub fact-of-six : fact 6 ≡ 720
+unfolding fact
+fact-of-six = refl
 
 pub fact-of-five : fact 5 ≡ 120
 unfolding fact

@@ -11,11 +11,11 @@ use Rattle.rules.proofs.Pins.{length-tabulate, getD-tabulate}
 use Rattle.rules.specs.Sheet.{kindIn}
 use Rattle.rules.specs.Judgement.{left}
 use Rattle.orders.specs.Plan.{Step, step, Steps, nil, full, begins, meet, steps}
-use Rattle.orders.specs.Ranks.{fact, hopOf, hops, openAfter, Way, Ahead}
+use Rattle.orders.specs.Ranks.{hopOf, hops, openAfter, RankOf, Way, Ahead}
 use Rattle.orders.specs.Sets.{ranks}
 use Rattle.orders.specs.Passes.{Passable}
 use Rattle.orders.proofs.Ranks.{fact-pos, fact-six}
-use Rattle.orders.proofs.Hops.{hop-made}
+use Rattle.orders.proofs.Hops.{hop-made, hop-middle}
 
 -- one hop: from rank r through the step s to rank x
 pub record Hopped (ku kl : ℕ) (s : Step) (r x : ℕ) : Type 0 where
@@ -129,27 +129,35 @@ module _ (ku kl : ℕ) where
 pub record Ready (k a b r : ℕ) : Type 0 where
   pub few : b ≤ 6
   pub touched : 0 < k → a < b
-  pub rank : r < fact b
+  pub rank : RankOf b r
 
 -- steps with c nets open before them, and a rank of those
 pub record Comes (c : ℕ) (ss : List Step) (r : ℕ) : Type 0 where
   pub plan : Steps c ss
-  pub rank : r < fact c
+  pub rank : RankOf c r
 
 module _ (ku kl : ℕ) (hu : ku ≤ 3) (hl : kl ≤ 3) where
+  rank-on : (r x p k a b : ℕ) → b ≤ 6 → (0 < k → a < b) → RankOf b r → hopOf ku kl (step k a b) r p ≡ some x →
+      RankOf (left (kindIn k) b) x
+  rank-on r x p k a b f t l h =
+      record {
+        below = hop-made ku kl k a b r p x h .lands t (l .below);
+        middle = hop-middle ku kl k a b r p x hu hl f (l .middle) h;
+      }
+
   -- past one step
-  past : {b k a c : ℕ} {ss : List Step} (r x p : ℕ) → Steps b (step k a c ∷ ss) → r < fact b → hopOf ku kl (step k a c) r p ≡ some x →
+  past : {b k a c : ℕ} {ss : List Step} (r x p : ℕ) → Steps b (step k a c ∷ ss) → RankOf b r → hopOf ku kl (step k a c) r p ≡ some x →
       Comes (left (kindIn k) b) ss x
   unfolding left kindIn
   past r x p (full {a}) l h =
       let m : 7 ≤ ku + kl = hop-made ku kl 0 a 6 r p x h .left-open in
       absurd (omega arith)
   past r x p (begins {a} {b} q u) l h =
-      record { plan = u; rank = hop-made ku kl 0 a b r p x h .lands (λ z. absurd (omega arith)) l }
-  past r x p (meet {k} {a} {b} z q j f u) l h = record { plan = u; rank = hop-made ku kl k a b r p x h .lands (λ v. j) l }
+      record { plan = u; rank = rank-on r x p 0 a b (omega arith) (λ z. absurd (omega arith)) l h }
+  past r x p (meet {k} {a} {b} z q j f u) l h = record { plan = u; rank = rank-on r x p k a b f (λ v. j) l h }
 
   -- a run through the first steps comes to the others with a rank of the nets that are then open
-  pub steps-rest : (i b : ℕ) (ss : List Step) (r x : ℕ) (ps : List ℕ) → Steps b ss → r < fact b →
+  pub steps-rest : (i b : ℕ) (ss : List Step) (r x : ℕ) (ps : List ℕ) → Steps b ss → RankOf b r →
       hops ku kl (take i ss) r ps ≡ some x → Comes (openAfter b (take i ss)) (drop i ss) x
   unfolding openAfter
   steps-rest zero b ss r x ps t l e =
@@ -166,7 +174,7 @@ module _ (ku kl : ℕ) (hu : ku ≤ 3) (hl : kl ≤ 3) where
   -- a way's rank is one of the nets that are then open
   pub way-comes : (i : ℕ) (ss : List Step) (x : ℕ) → Steps 0 ss → Way ku kl (take i ss) x →
       Comes (openAfter 0 (take i ss)) (drop i ss) x
-  way-comes i ss x t w = steps-rest i 0 ss 0 x (w .ps) t (fact-pos 0) (w .runs)
+  way-comes i ss x t w = steps-rest i 0 ss 0 x (w .ps) t (record { below = fact-pos 0; middle = λ e. absurd (omega arith) }) (w .runs)
 
   steps-few : {c : ℕ} {ss : List Step} → Steps c ss → c ≤ 6
   steps-few (nil h) = h
@@ -178,9 +186,9 @@ module _ (ku kl : ℕ) (hu : ku ≤ 3) (hl : kl ≤ 3) where
   pub way-below : (i : ℕ) (ss : List Step) (x : ℕ) → Steps 0 ss → Way ku kl (take i ss) x → x < ranks
   way-below i ss x t w =
       let n = way-comes i ss x t w in
-      omega (arith, n .rank, fact-six (openAfter 0 (take i ss)) (steps-few (n .plan)))
+      omega (arith, n .rank .below, fact-six (openAfter 0 (take i ss)) (steps-few (n .plan)))
 
-  ready : {c : ℕ} {ss : List Step} (k a b x : ℕ) (ts : List Step) → ss ≡ step k a b ∷ ts → Steps c ss → x < fact c → Ready k a b x
+  ready : {c : ℕ} {ss : List Step} (k a b x : ℕ) (ts : List Step) → ss ≡ step k a b ∷ ts → Steps c ss → RankOf c x → Ready k a b x
   ready k a b x ts e (nil h) l = let z : _≡_ {A = ℕ} 0 1 = cc in absurd (omega arith)
   ready k a b x ts e full l =
       let n : 6 ≡ b = cc in

@@ -3,3 +3,4 @@ pub mod Ranks
 pub mod Sets
 pub mod Stops
 pub mod Passes
+pub mod Masks

@@ -5,7 +5,7 @@ use mathlib.Core.Path.{_≡_}
 use mathlib.Core.Bool.{_&&_}
 use mathlib.Core.List.{List, [], _∷_}
 use mathlib.Core.Option.{Option, none, some}
-use Prim.Native.Nat.{ℕ, zero, suc, _+_, _-_, _*_, _/_, _%_}
+use Prim.Native.Nat.{ℕ, zero, suc, _+_, _-_, _*_, _/_, _%_, _<_, _≤_}
 use lib.ListN.{length}
 use lib.Dec.{leb, eqb}
 use Rattle.rules.specs.Basic.{pick, put, keep, andThen}
@@ -66,6 +66,11 @@ hops ku kl (s ∷ ss) r (p ∷ ps) = andThen (hopOf ku kl s r p) (λ x. hops ku 
 unfoldable pub openAfter : ℕ → List Step → ℕ
 openAfter b [] = b
 openAfter b (step k a c ∷ ss) = openAfter (left (kindIn k) b) ss
+
+-- r is the rank of an order of b nets that hops can lead to: of six, the youngest has two or more above it
+pub record RankOf (b r : ℕ) : Type 0 where
+  pub below : r < fact b
+  pub middle : b ≡ capacity → 240 ≤ r
 
 -- the steps lead from rank 0, the order of no nets, to rank x
 pub record Way (ku kl : ℕ) (ss : List Step) (x : ℕ) : Type 0 where

@@ -1,6 +1,8 @@
 // Sets of orders, as marks on ranks in lent bytes, and the passes of the router over them.
+pub mod mask;
 pub mod pass;
 pub mod rank;
 pub mod reach;
 pub mod set;
+pub mod touch;
 pub mod word;

@@ -6,6 +6,7 @@ use crate::rank::factorial;
 use crate::rank::hop;
 use crate::set::is_source;
 use crate::set::mark;
+use crate::touch::touch;
 ghost use mathlib.Core.Path.{_≡_};
 ghost use mathlib.Core.Bool.{true};
 ghost use mathlib.Core.Option.{some};
@@ -14,10 +15,30 @@ ghost use lib.ListN.{length};
 ghost use Rattle.orders.specs.Ranks.{fact};
 ghost use Rattle.orders.specs.Sets.{stretch, held, source, Empty, Gains, Exactly};
 ghost use Rattle.orders.specs.Stops.{Sound, hopAt};
+ghost use Rattle.orders.specs.Masks.{Sources};
 ghost use Rattle.orders.specs.Passes.{Leads, Reached};
 
 // Marks in gap g, which is empty, every rank that node g leads to from the ranks before it.
 pub fn spread(work: &mut [u8], g: usize, stop: Stop)
+    requires { ⌜ Sound stop × (stretch * suc g ≤ length (now work)) ⌝ }
+    requires { ⌜ Empty (now work) g ⌝ }
+    requires { ⌜ Sources stop (now work) g ⌝ }
+    ensures { λ _. ⌜ Exactly (now (work .entry)) g (Reached stop (now (work .entry)) g) (now (work .exit)) ⌝ }
+{
+    let kind = stop.kind;
+    if g == 0 {
+        spread_ranks(work, g, stop);
+        return;
+    }
+    if kind == 1 {
+        touch(work, g, stop);
+        return;
+    }
+    spread_ranks(work, g, stop);
+}
+
+// The same, rank by rank.
+fn spread_ranks(work: &mut [u8], g: usize, stop: Stop)
     requires { ⌜ Sound stop × (stretch * suc g ≤ length (now work)) ⌝ }
     requires { ⌜ Empty (now work) g ⌝ }
     ensures { λ _. ⌜ Exactly (now (work .entry)) g (Reached stop (now (work .entry)) g) (now (work .exit)) ⌝ }

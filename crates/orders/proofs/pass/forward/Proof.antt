@@ -2,7 +2,7 @@
 use mathlib.Core.Path.{_∙_}
 use Prim.Native.Nat.{_-_}
 use native.Mathlib.Omega.{arith}
-use Rattle.orders.proofs.Filling.{Fills, fills-start, fills-step, fills-stuck, fills-end}
+use Rattle.orders.proofs.Filling.{Fills, fills-start, fills-ranks, fills-step, fills-stuck, fills-end}
 use Rattle.orders.proofs.Nodes.{stop-ready}
 use Rattle.orders.proofs.pass.forward.Statement.{statement}
 use Rattle.orders.proofs.pass.forward.Tie as tie
@@ -34,8 +34,11 @@ spread-requires c κs =
     let s = stop-ready (a .kinds .now) (a .ages .now) (a .counts .now) (a .ku) (a .kl) (l .i) t (a .work .now) (p .end) (g .pre .0)
     (p .way) .0 in (
       (rw (c .before .stop-at .ensures) s, omega (arith, g .pre .0 .room, l .inv .long, t)),
-      λ x h e. l .inv .empty (l .i) x
-          (omega arith) h e,
+      (
+        (λ x h e. l .inv .empty (l .i) x (omega arith) h e),
+        rw (c .before .stop-at .ensures)
+            (fills-ranks (a .kinds .now) (a .ages .now) (a .counts .now) (a .ku) (a .kl) (a .work .now) (g .pre .0) (l .i) (l .work) t (l .inv)),
+      ),
     )
 
 bare-requires : tie.Need-bare-requires Inv-loop μ-loop

@@ -33,7 +33,7 @@ choose-requires c κs =
     let t = c .before .loop-test .taken in
     let s = stop-ready (a .kinds .now) (a .ages .now) (a .counts .now) (a .ku) (a .kl) (l .i) t (a .work .now) (l .r) (g .pre .0)
     (l .inv .way) in
-    rw (c .stop-at .ensures) ((s .0, omega (arith, g .pre .0 .room, t)), s .1)
+    rw (c .stop-at .ensures) ((s .0, omega (arith, g .pre .0 .room, t)), s .1 .below)
 
 enum-known-p : tie.Need-enum-known-p Inv-loop μ-loop
 enum-known-p c = search needs

@@ -1,75 +1,48 @@
--- `orders::reach::spread` meets its contract. The loop's invariant: what the ranks passed lead to is marked.
-use Prim.Native.Nat.{_-_, _≤_}
+-- `orders::reach::spread` meets its contract: each way of doing it does.
 use native.Mathlib.Omega.{arith}
 use borrow.Author.Needs.{needs}
-use Rattle.orders.specs.Sets.{Gains}
-use Rattle.orders.proofs.Spreading.{Reach, reach-start, reach-step, reach-end}
 use Rattle.orders.proofs.reach.spread.Statement.{statement}
 use Rattle.orders.proofs.reach.spread.Tie as tie
 
-abbrev Inv-loop : tie.InvT-loop
-Inv-loop work₀ g stop b m r₀ work r = Gains work₀ g (Reach stop work₀ g r) work × (r ≤ m)
+spread-ranks-requires : tie.Need-spread-ranks-requires
+spread-ranks-requires c κs = search needs
 
-abbrev μ-loop : tie.MeasureT-loop
-μ-loop work₀ g stop b m r₀ work r = m - r
+same-length : tie.Need-same-length
+same-length c = search needs
 
-cast-b : tie.Need-cast-b Inv-loop μ-loop
-cast-b c = search needs
+returns : tie.Need-returns
+returns c = search needs
 
-factorial-requires : tie.Need-factorial-requires Inv-loop μ-loop
-factorial-requires c κs = search needs
+touch-requires : tie.Need-touch-requires
+touch-requires c κs =
+    let g = c .before .before .before .before .pre in
+    ((g .0 .0, g .0 .1, omega (arith, c .before .before .if1 .left), c .before .if2 .taken), g .1)
 
-loop-holds : tie.Need-loop-holds Inv-loop μ-loop
-loop-holds c =
-    let g = c .before .before .before .args in
-    (reach-start (g .work .now) (g .g) (g .stop), omega arith)
+same-length-2 : tie.Need-same-length-2
+same-length-2 c = search needs
 
-fan-from-requires : tie.Need-fan-from-requires Inv-loop μ-loop
-fan-from-requires c κs =
-    let g = c .before .before .before .before .before .before in (
-      (g .pre .0 .0, omega (arith, g .pre .0 .1, c .before .before .loop .inv .0 .long)),
-      rw
-          (← c .before .before .before .factorial .ensures .value) (c .before .loop-test .taken),
-    )
+returns-2 : tie.Need-returns-2
+returns-2 c = search needs
 
-add-r : tie.Need-add-r Inv-loop μ-loop
-add-r c = omega arith
+spread-ranks-requires-2 : tie.Need-spread-ranks-requires-2
+spread-ranks-requires-2 c κs = search needs
 
-loop-less : tie.Need-loop-less Inv-loop μ-loop
-loop-less c = omega arith
+same-length-3 : tie.Need-same-length-3
+same-length-3 c = search needs
 
-loop-again : tie.Need-loop-again Inv-loop μ-loop
-loop-again c =
-    let g = c .before .before .before .before .before .before .before .before .before .args in
-    let l = c .before .before .before .before .before .loop in
-    let m = c .before .before .before .before .before .before .factorial in (
-      reach-step (g .work .now) (g .g) (g .stop) (l .r) (l .work) (c .before .before .fan-from .last .0)
-          (omega (arith, m .ensures .most)) (l .inv .0) (c .before .before .fan-from .ensures),
-      omega arith,
-    )
-
-same-length : tie.Need-same-length Inv-loop μ-loop
-same-length c = c .before .loop .inv .0 .long
-
-returns : tie.Need-returns Inv-loop μ-loop
-returns c =
-    let g = c .before .before .before .before .before .args in
-    let l = c .before .loop in
-    reach-end (g .work .now) (g .g) (g .stop) (l .r) (l .work) (omega (arith, c .before .before .factorial .ensures .value))
-    (c .before .before .before .before .before .pre .1) (l .inv .0)
+returns-3 : tie.Need-returns-3
+returns-3 c = search needs
 
 pub spread-spec : {M : Type 1} → statement M
 spread-spec =
     tie.close
     (tie.spec
-    Inv-loop
-    μ-loop
-    cast-b
-    factorial-requires
-    loop-holds
-    fan-from-requires
-    add-r
-    loop-less
-    loop-again
+    spread-ranks-requires
     same-length
-    returns)
+    returns
+    touch-requires
+    same-length-2
+    returns-2
+    spread-ranks-requires-2
+    same-length-3
+    returns-3)
