@@ -9,15 +9,16 @@ use lib.Dec.{eqb}
 use borrow.Author.Tests.{eqb-true, eqb-false}
 use Rattle.orders.specs.declared.rank.Stop.{Stop}
 use Rattle.orders.specs.Plan.{Step, steps}
-use Rattle.orders.specs.Ranks.{fact, Ahead}
-use Rattle.orders.specs.Sets.{ranks, marked, Set, Loses}
+use Rattle.orders.specs.Ranks.{RankOf, Ahead}
+use Rattle.orders.specs.Sets.{ranks, marked, source, Set, Loses}
 use Rattle.orders.specs.Stops.{stopOf}
-use Rattle.orders.specs.Passes.{Onward, Misses, Least, Given, Filled, Pruned}
-use Rattle.orders.proofs.Bits.{not-both}
+use Rattle.orders.specs.Passes.{Onward, Reached, Misses, Least, Given, Filled, Pruned}
+use Rattle.orders.proofs.Slots.{held-below}
+use Rattle.orders.proofs.Bits.{not-both, marked-held, source-gap}
 use Rattle.orders.proofs.Gains.{loses-none, loses-map, loses-one, loses-join}
 use Rattle.orders.proofs.Spreading.{last-or}
 use Rattle.orders.proofs.Ways.{ahead-none, steps-length}
-use Rattle.orders.proofs.Nodes.{way-on, ahead-on, ahead-back, stop-ready, rank-below}
+use Rattle.orders.proofs.Nodes.{way-on, way-back, ahead-on, ahead-back, stop-ready, rank-below}
 
 -- a number from g on is g or above it
 at-or : {P : Type 0} (h g : ℕ) → g ≤ h → (h ≡ g → P) → (g < h → P) → P
@@ -101,11 +102,28 @@ module _ (ks xs cs : List ℕ) (ku kl : ℕ) (s₀ : List ℕ) (given : Given ks
       }
 
   -- the rank of a mark is one of the nets that the next node finds open
-  below-next : (i g : ℕ) (s : List ℕ) → i ≡ suc (suc g) → Prunes ks xs cs ku kl s₀ i s → (x : ℕ) → x < ranks → marked s g x ≡ true →
-      x < fact (getD cs (suc g) 0)
-  below-next i g s e f x h m =
+  rank-next : (i g : ℕ) (s : List ℕ) → i ≡ suc (suc g) → Prunes ks xs cs ku kl s₀ i s → (x : ℕ) → marked s g x ≡ true →
+      RankOf (getD cs (suc g) 0) x
+  rank-next i g s e f x m =
+      let h : x < ranks = omega (arith, held-below x (marked-held s g x m)) in
       let w = fills .sound g x (omega (arith, f .node)) h (sym (f .early g x (omega arith) h) ∙ m) in
-      stop-ready ks xs cs ku kl (suc g) (omega (arith, f .node)) s₀ x given w .1 .below
+      stop-ready ks xs cs ku kl (suc g) (omega (arith, f .node)) s₀ x given w .1
+
+  -- what is marked after the next node was led to from a mark before it
+  reached-next : (i g : ℕ) (s : List ℕ) → i ≡ suc (suc g) → Prunes ks xs cs ku kl s₀ i s → (x : ℕ) → marked s (suc g) x ≡ true →
+      Reached (stopOf ks xs cs ku kl (suc g)) s (suc g) x
+  reached-next i g s e f x m =
+      let l : suc g < length ks = omega (arith, f .node) in
+      let h : x < ranks = omega (arith, held-below x (marked-held s (suc g) x m)) in
+      let w = fills .sound (suc g) x l h (f .was (suc g) x (omega arith) l h m) in
+      let (r, v, k) = way-back ks xs cs ku kl (suc g) l x w in
+      let n : r < ranks = rank-below ks xs cs ku kl (suc g) s₀ r given v in
+      record {
+        rank = r;
+        below = stop-ready ks xs cs ku kl (suc g) l s₀ r given v .1 .below;
+        from = source-gap s (suc g) g r refl ∙ f .early g r (omega arith) n ∙ fills .full g r (omega arith) v;
+        leads = k;
+      }
 
   prunes-next : (i g : ℕ) (s t : List ℕ) → i ≡ suc (suc g) → Prunes ks xs cs ku kl s₀ i s →
       Loses s g (Onward (stopOf ks xs cs ku kl (suc g)) s (suc g)) t → Prunes ks xs cs ku kl s₀ (suc g) t
@@ -150,8 +168,11 @@ module _ (ks xs cs : List ℕ) (ku kl : ℕ) (s₀ : List ℕ) (given : Given ks
 
   -- with node h, between gaps g and h
   module _ (i h g : ℕ) (s : List ℕ) (ei : i ≡ suc h) (eh : h ≡ suc g) (f : Prunes ks xs cs ku kl s₀ i s) where
-    pub mark-below : (x : ℕ) → x < ranks → marked s g x ≡ true → x < fact (getD cs h 0)
-    mark-below x l m = rw eh (below-next i g s (ei ∙ ap suc eh) f x l m)
+    pub mark-ranks : (x : ℕ) → source s (suc g) x ≡ true → RankOf (getD cs h 0) x
+    mark-ranks x m = rw eh (rank-next i g s (ei ∙ ap suc eh) f x (sym (source-gap s (suc g) g x refl) ∙ m))
+
+    pub mark-reached : (x : ℕ) → marked s (suc g) x ≡ true → Reached (stopOf ks xs cs ku kl h) s (suc g) x
+    mark-reached x m = rw eh (reached-next i g s (ei ∙ ap suc eh) f x m)
 
     pub prunes-step : (t : List ℕ) → Loses s g (Onward (stopOf ks xs cs ku kl h) s (suc g)) t → Prunes ks xs cs ku kl s₀ h t
     prunes-step t a = rw eh (prunes-next i g s t (ei ∙ ap suc eh) f (rw eh at a))

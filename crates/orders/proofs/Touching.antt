@@ -8,20 +8,20 @@ use native.Mathlib.Numerals.{add-one}
 use native.Mathlib.Omega.{arith}
 use lib.Bits.{bitAnd}
 use lib.Dec.{leb, ltb, eqb}
-use borrow.Author.Tests.{eqb-true, eqb-false, ltb-true, ltb-false, eq-eqb, lt-ltb, le-ltb, le-leb}
+use borrow.Author.Tests.{eqb-true, eqb-false, ltb-true, ltb-false, leb-true, leb-false, eq-eqb, ne-eqb, lt-ltb, le-ltb, le-leb}
 use Rattle.rules.specs.Basic.{pick, every}
 use Rattle.rules.proofs.Fits.{Fits}
 use Rattle.rules.proofs.PinsTest.{every-at}
 use Rattle.orders.specs.declared.rank.Stop.{Stop}
 use Rattle.orders.specs.Ranks.{fact, RankOf, atOf}
-use Rattle.orders.specs.Sets.{ranks, slots, held, slot, wordAt, bit, marked, source, Written, Empty, Exactly}
+use Rattle.orders.specs.Sets.{ranks, slots, held, slot, wordAt, bit, marked, source, Written, Empty, Exactly, Loses}
 use Rattle.orders.specs.Stops.{Sound}
-use Rattle.orders.specs.Passes.{Leads, Reached}
-use Rattle.orders.specs.Masks.{slotsOf, roomAt, roomy, Sources, Redone, Capped, InFour, InFive, InSix}
+use Rattle.orders.specs.Passes.{Leads, Onward, Reached}
+use Rattle.orders.specs.Masks.{between, slotsOf, roomAt, roomy, Sources, Redone, Capped, InFour, InFive, InSix}
 use Rattle.orders.proofs.Ranks.{fact-most, fact-of-four, fact-of-five}
 use Rattle.orders.proofs.Slots.{slot-below, slot-few, slot-middle, slot-cases}
 use Rattle.orders.proofs.Words.{bit-and}
-use Rattle.orders.proofs.Masks.{alike, alike-same, few-room, five-room, six-room}
+use Rattle.orders.proofs.Masks.{same-test, between-in, between-out, between-under, between-over, alike, alike-same, few-room, five-room, six-room}
 use Rattle.orders.proofs.Bits.{not-both, marked-bit, marked-held, marked-same, source-gap}
 use Rattle.orders.proofs.Hops.{both, fits-fits, hop-met, hop-meets}
 
@@ -312,3 +312,109 @@ module _ (t : Stop) (s : List ℕ) (g h : ℕ) (eg : g ≡ suc h) (sound : Sound
         sound = λ x l e. absurd (z x l e);
         full = λ x l r. absurd (room-sum (r .rank) c (leads-room (r .rank) x (r .leads) .1));
       }
+
+-- words copied from the gap after
+copy-same : (from k j : ℕ) → from ≤ k → between from k j || eqb j k ≡ between from (k + 1) j
+unfolding between
+copy-same from k j h = go (leb from j) refl
+  where
+    go : (t : Bool) → leb from j ≡ t → (t && ltb j k) || eqb j k ≡ t && ltb j (k + 1)
+    go true e = one-more j k
+    go false e = ne-eqb j k (λ q. omega (arith, leb-false from j e))
+
+copy-none : (from j : ℕ) → between from from j ≡ false
+copy-none from j = go (leb from j) refl
+  where
+    go : (t : Bool) → leb from j ≡ t → between from from j ≡ false
+    go true e = between-over from from j (leb-true from j e) (leb-true from j e)
+    go false e = between-under from from j (leb-false from j e)
+
+module _ (s : List ℕ) (g from : ℕ) where
+  abbrev After : ℕ → Bool
+  After x = marked s (suc g) x
+
+  pub copy-start : Redone s g (between from from) After s
+  copy-start = redone-map s g After (λ k. false) (between from from) s (λ k l. sym (copy-none from k)) (redone-start s g After)
+
+  pub copy-step : (h k w : ℕ) (u v : List ℕ) → h ≡ suc g → from ≤ k → w ≡ wordAt u h k → Redone s g (between from k) After u →
+      Written u g k w v → Redone s g (between from (k + 1)) After v
+  copy-step h k w u v eh l ew r b =
+      redone-map s g After (λ j. between from k j || eqb j k) (between from (k + 1)) v (λ j i. copy-same from k j l)
+      (redone-more s g After (between from k) k w u v r b own)
+    where
+      own : (x : ℕ) → held x ≡ true → slot x ≡ k → bit w (x % 24) ≡ marked s (suc g) x
+      own x i e =
+          ap (λ (d : ℕ). bit d (x % 24)) (ew ∙ ap₂ (wordAt u) eh (sym e)) ∙ sym (marked-bit u (suc g) x i) ∙
+          r .others (suc g) x (λ q. omega arith)
+
+  pub copy-end : (k to : ℕ) (u : List ℕ) → to ≤ k → k ≤ to → Redone s g (between from k) After u → Redone s g (between from to) After u
+  copy-end k to u l m r =
+      let e : k ≡ to = omega arith in
+      rw e at r
+
+-- the words of b nets, as bounds
+module _ (b k : ℕ) where
+  between-few : b < 5 → between 0 1 k ≡ slotsOf b k
+  between-few h = same-test (between 0 1 k) (eqb k 0)
+      (λ e. eq-eqb k 0 (omega (arith, between-out 0 1 k e .1))) (λ e. between-in 0 1 k (omega arith) (omega (arith, eqb-true k 0 e))) ∙
+      sym (slots-few b k h)
+
+  between-five : b ≡ 5 → between 0 5 k ≡ slotsOf b k
+  between-five h = same-test (between 0 5 k) (ltb k 5)
+      (λ e. lt-ltb k 5 (between-out 0 5 k e .1)) (λ e. between-in 0 5 k (omega arith) (ltb-true k 5 e)) ∙ sym (slots-five b k h)
+
+  between-six : b ≡ 6 → k < slots → between 5 15 k ≡ slotsOf b k
+  between-six h l = same-test (between 5 15 k) (leb 5 k)
+      (λ e. le-leb 5 k (between-out 5 15 k e .0)) (λ e. between-in 5 15 k (leb-true 5 k e) l) ∙ sym (slots-six b k h)
+
+-- where a net is touched the ranks that are marked after the node are those that lead on
+module _ (t : Stop) (s : List ℕ) (g : ℕ) (u : List ℕ) (sound : Sound t) (touches : t .kind ≡ 1) (o : Sources t s (suc g))
+    (reached : (x : ℕ) → marked s (suc g) x ≡ true → Reached t s (suc g) x) where
+  -- a mark after the node is one before it, and the node leads from it to itself
+  after-before : (x : ℕ) → marked s (suc g) x ≡ true → (marked s g x ≡ true) × Leads t x x
+  after-before x m =
+      let r = reached x m in
+      let e : r .rank ≡ x = leads-room t s (suc g) g refl sound touches (r .rank) x (r .leads) .0 in
+      let q : marked s g (r .rank) ≡ true = sym (source-gap s (suc g) g (r .rank) refl) ∙ r .from in
+      ((rw e at q), (rw e at (r .leads)))
+
+  pub copied-loses : Redone s g (slotsOf (t .count)) (λ x. marked s (suc g) x) u → Loses s g (Onward t s (suc g)) u
+  copied-loses a =
+      record {
+        long = a .long;
+        others = λ y x l n. a .others y x n;
+        was = λ x l e. was x e (slotsOf (t .count) (slot x)) refl;
+        sound = λ x l e. onward x l (kept x e (slotsOf (t .count) (slot x)) refl);
+        full = λ x l e p. full x e p;
+      }
+    where
+      mine : (x : ℕ) → marked s g x ≡ true → slotsOf (t .count) (slot x) ≡ true
+      mine x m = rank-slots (t .count) x (sound .few) (marked-held s g x m) (o x (source-gap s (suc g) g x refl ∙ m))
+
+      kept : (x : ℕ) → marked u g x ≡ true → (k : Bool) → slotsOf (t .count) (slot x) ≡ k → marked s (suc g) x ≡ true
+      kept x e true k = sym (a .done x (marked-held u g x e) k) ∙ e
+      kept x e false k = absurd (not-both k (mine x (sym (a .left x (marked-held u g x e) k) ∙ e)))
+
+      was : (x : ℕ) → marked u g x ≡ true → (k : Bool) → slotsOf (t .count) (slot x) ≡ k → marked s g x ≡ true
+      was x e k q = after-before x (kept x e k q) .0
+
+      onward : (x : ℕ) → x < ranks → marked s (suc g) x ≡ true → Onward t s (suc g) x
+      onward x l m = record { next = x; within = l; leads = after-before x m .1; kept = m }
+
+      full : (x : ℕ) → marked s g x ≡ true → Onward t s (suc g) x → marked u g x ≡ true
+      full x m p =
+          let e : x ≡ p .next = leads-room t s (suc g) g refl sound touches x (p .next) (p .leads) .0 in
+          let n : marked s (suc g) x ≡ true = rw e (p .kept) in
+          a .done x (marked-held s g x m) (mine x m) ∙ n
+
+  pub copied-few : t .count < 5 → Redone s g (between 0 1) (λ x. marked s (suc g) x) u → Loses s g (Onward t s (suc g)) u
+  copied-few h r =
+      copied-loses (redone-map s g (λ x. marked s (suc g) x) (between 0 1) (slotsOf (t .count)) u (λ k l. between-few (t .count) k h) r)
+
+  pub copied-five : t .count ≡ 5 → Redone s g (between 0 5) (λ x. marked s (suc g) x) u → Loses s g (Onward t s (suc g)) u
+  copied-five h r =
+      copied-loses (redone-map s g (λ x. marked s (suc g) x) (between 0 5) (slotsOf (t .count)) u (λ k l. between-five (t .count) k h) r)
+
+  pub copied-six : t .count ≡ 6 → Redone s g (between 5 15) (λ x. marked s (suc g) x) u → Loses s g (Onward t s (suc g)) u
+  copied-six h r =
+      copied-loses (redone-map s g (λ x. marked s (suc g) x) (between 5 15) (slotsOf (t .count)) u (λ k l. between-six (t .count) k h l) r)

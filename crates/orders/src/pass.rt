@@ -8,6 +8,7 @@ use crate::reach::spread;
 use crate::set::bare;
 use crate::set::is_marked;
 use crate::set::unmark;
+use crate::touch::prune_touched;
 ghost use mathlib.Core.Path.{_≡_};
 ghost use mathlib.Core.Bool.{true};
 ghost use Prim.Native.Nat.{ℕ, suc, _*_, _≤_, _<_};
@@ -16,7 +17,8 @@ ghost use Rattle.orders.specs.Plan.{steps};
 ghost use Rattle.orders.specs.Ranks.{fact};
 ghost use Rattle.orders.specs.Sets.{ranks, stretch, marked, Clear, Loses};
 ghost use Rattle.orders.specs.Stops.{Sound, stopOf};
-ghost use Rattle.orders.specs.Passes.{Onward, Landed, Chosen, Given, Forward, Filled, Passable, Pruned, Kept, Picked};
+ghost use Rattle.orders.specs.Masks.{Sources};
+ghost use Rattle.orders.specs.Passes.{Onward, Reached, Landed, Chosen, Given, Forward, Filled, Passable, Pruned, Kept, Picked};
 
 // The position that is taken at a node, from 0, and the rank after it.
 pub enum Choice {
@@ -125,6 +127,21 @@ fn stop_at(kinds: &[u8], ages: &[u8], counts: &[u8], ku: u8, kl: u8, i: usize) -
 
 // Leaves in gap g only the ranks from which the node after it leads to a marked rank.
 fn prune_set(work: &mut [u8], g: usize, stop: Stop)
+    requires { ⌜ Sound stop × (stretch * suc (suc g) ≤ length (now work)) ⌝ }
+    requires { ⌜ Sources stop (now work) (suc g) ⌝ }
+    requires { ⌜ ((x : ℕ) → marked (now work) (suc g) x ≡ true → Reached stop (now work) (suc g) x) ⌝ }
+    ensures { λ _. ⌜ Loses (now (work .entry)) g (Onward stop (now (work .entry)) (suc g)) (now (work .exit)) ⌝ }
+{
+    let kind = stop.kind;
+    if kind == 1 {
+        prune_touched(work, g, stop);
+        return;
+    }
+    prune_ranks(work, g, stop);
+}
+
+// The same, rank by rank.
+fn prune_ranks(work: &mut [u8], g: usize, stop: Stop)
     requires { ⌜ Sound stop × (stretch * suc (suc g) ≤ length (now work)) ⌝ }
     requires { ⌜ ((x : ℕ) → x < ranks → marked (now work) g x ≡ true → x < fact (stop .count)) ⌝ }
     ensures { λ _. ⌜ Loses (now (work .entry)) g (Onward stop (now (work .entry)) (suc g)) (now (work .exit)) ⌝ }

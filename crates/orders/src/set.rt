@@ -7,8 +7,8 @@ ghost use Prim.Native.Nat.{suc, _*_, _≤_, _<_};
 ghost use lib.ListN.{length};
 ghost use Rattle.orders.specs.Sets.{stretch, slots, held, slot, marked, source, Holds, Set, Bare, Clear};
 
-// The ranks of six nets.
-pub const RANKS: usize = 720;
+// The words of a gap.
+const SLOTS: usize = 15;
 
 // Whether rank r of gap g is marked.
 pub fn is_marked(work: &[u8], g: usize, r: usize) -> bool
@@ -92,12 +92,13 @@ pub fn bare(work: &[u8], g: usize) -> bool
     requires { ⌜ stretch * suc g ≤ length (now work) ⌝ }
     ensures { λ t. ⌜ Bare (now (work .entry)) g t ⌝ }
 {
-    let mut r: usize = 0;
-    while r < RANKS {
-        if is_marked(work, g, r) {
+    let mut k: usize = 0;
+    while k < SLOTS {
+        let w = word(work, g, k);
+        if 0 < w % 16777216 {
             return false;
         }
-        r += 1;
+        k += 1;
     }
     true
 }

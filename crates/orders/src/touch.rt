@@ -1,4 +1,4 @@
-// One node forward where a net is touched: the ranks at which it has room are kept, a word of them at a time.
+// A node that touches a net, forward and back: the ranks that are kept, a word of them at a time.
 use crate::mask::capped;
 use crate::mask::in_five;
 use crate::mask::in_four;
@@ -7,13 +7,13 @@ use crate::rank::Stop;
 use crate::word::put_word;
 use crate::word::word;
 ghost use mathlib.Core.Path.{_≡_};
-ghost use mathlib.Core.Bool.{_&&_};
-ghost use Prim.Native.Nat.{suc, _+_, _-_, _*_, _≤_, _<_};
+ghost use mathlib.Core.Bool.{true, _&&_};
+ghost use Prim.Native.Nat.{ℕ, suc, _+_, _-_, _*_, _≤_, _<_};
 ghost use lib.ListN.{length};
 ghost use lib.Bits.{bitAnd};
-ghost use Rattle.orders.specs.Masks.{slotsOf, roomy, Sources, Redone};
-ghost use Rattle.orders.specs.Passes.{Reached};
-ghost use Rattle.orders.specs.Sets.{stretch, slots, marked, wordAt, Written, Empty, Exactly};
+ghost use Rattle.orders.specs.Masks.{between, slotsOf, roomy, Sources, Redone};
+ghost use Rattle.orders.specs.Passes.{Onward, Reached};
+ghost use Rattle.orders.specs.Sets.{stretch, slots, marked, wordAt, Written, Empty, Exactly, Loses};
 ghost use Rattle.orders.specs.Stops.{Sound};
 
 // Marks in gap g, which is empty, every rank before it that node g, which touches a net, leads to.
@@ -87,6 +87,38 @@ fn touch_six(work: &mut [u8], g: usize, stop: Stop)
         sift(work, g, 5 + e, m);
         sift(work, g, 10 + e, m);
         e += 1;
+    }
+}
+
+// Leaves in gap g only the ranks from which the node after it, which touches a net, leads to a marked rank: those that are marked after it.
+pub fn prune_touched(work: &mut [u8], g: usize, stop: Stop)
+    requires { ⌜ Sound stop × (stretch * suc (suc g) ≤ length (now work)) × (stop .kind ≡ 1) ⌝ }
+    requires { ⌜ Sources stop (now work) (suc g) ⌝ }
+    requires { ⌜ ((x : ℕ) → marked (now work) (suc g) x ≡ true → Reached stop (now work) (suc g) x) ⌝ }
+    ensures { λ _. ⌜ Loses (now (work .entry)) g (Onward stop (now (work .entry)) (suc g)) (now (work .exit)) ⌝ }
+{
+    let b = stop.count as usize;
+    if b < 5 {
+        copy_back(work, g, 0, 1);
+        return;
+    }
+    if b == 5 {
+        copy_back(work, g, 0, 5);
+        return;
+    }
+    copy_back(work, g, 5, 15);
+}
+
+// Puts into the slots of gap g from `from` on before `to` what the gap after it has there.
+fn copy_back(work: &mut [u8], g: usize, from: usize, to: usize)
+    requires { ⌜ (stretch * suc (suc g) ≤ length (now work)) × (from ≤ to) × (to ≤ slots) ⌝ }
+    ensures { λ _. ⌜ Redone (now (work .entry)) g (between from to) (λ x. marked (now (work .entry)) (suc g) x) (now (work .exit)) ⌝ }
+{
+    let mut k = from;
+    while k < to {
+        let w = word(work, g + 1, k);
+        put_word(work, g, k, w);
+        k += 1;
     }
 }
 

@@ -2,7 +2,7 @@
 use mathlib.Core.Path.{_≡_}
 use Prim.Native.Nat.{suc, _-_}
 use native.Mathlib.Omega.{arith}
-use Rattle.orders.proofs.Pruning.{Prunes, prunes-start, mark-below, prunes-step, prunes-end}
+use Rattle.orders.proofs.Pruning.{Prunes, prunes-start, mark-ranks, mark-reached, prunes-step, prunes-end}
 use Rattle.orders.proofs.Nodes.{stop-sound}
 use Rattle.orders.proofs.pass.prune.Statement.{statement}
 use Rattle.orders.proofs.pass.prune.Tie as tie
@@ -40,11 +40,12 @@ prune-set-requires c κs =
     let eh : l .i - 1 ≡ suc (l .i - 1 - 1) = omega (arith, t) in
     let s = stop-sound (a .kinds .now) (a .ages .now) (a .counts .now) (a .ku) (a .kl) (l .i - 1) (a .work .now)
     (omega (arith, l .inv .node, t)) (g .pre .0) (g .pre .1 .1) in
-    let b = mark-below (a .kinds .now) (a .ages .now) (a .counts .now) (a .ku) (a .kl) (a .work .now) (g .pre .0) (g .pre .1 .0) (l .i)
+    let b = mark-ranks (a .kinds .now) (a .ages .now) (a .counts .now) (a .ku) (a .kl) (a .work .now) (g .pre .0) (g .pre .1 .0) (l .i)
+    (l .i - 1) (l .i - 1 - 1) (l .work) ei eh (l .inv) in
+    let r = mark-reached (a .kinds .now) (a .ages .now) (a .counts .now) (a .ku) (a .kl) (a .work .now) (g .pre .0) (g .pre .1 .0) (l .i)
     (l .i - 1) (l .i - 1 - 1) (l .work) ei eh (l .inv) in (
       (rw (c .before .stop-at .ensures) s, omega (arith, g .pre .0 .room, l .inv .long, l .inv .node)),
-      rw
-          (c .before .stop-at .ensures) b,
+      rw (c .before .stop-at .ensures) (b, r),
     )
 
 loop-less : tie.Need-loop-less Inv-loop μ-loop
