@@ -6,13 +6,13 @@ use native.Mathlib.Numerals.{add-one}
 use native.Mathlib.Omega.{arith}
 use mathlib.Core.List.{List, [], _∷_, _++_, append-assoc, append-nil}
 use lib.ListN.{length, getD, take, drop, set, length-append, length-drop, take-append-drop}
-use lib.Seq.{take-at, take-append-le, drop-append-le, take-append-add, drop-append-add, length-take-le, take-append-seam, getD-drop, drop-drop, take-all, sets, sets-eq, paste, length-paste}
+use lib.Seq.{take-at, take-append-le, drop-append-le, take-append-add, drop-append-add, length-take-le, take-append-seam, getD-drop, drop-drop, take-all, sets, sets-eq, length-sets, paste, length-paste}
 use lib.Arith.{digits-lt}
 use lib.Bits.{bitAnd, and-mask}
 use lib.Pow.{pow-pos, pow-add, shr-lt}
 use Rattle.rules.specs.Bits.{bits, digits, val, pack, field}
-use Rattle.rules.proofs.Fields.{length-digits, length-pack, val-digits-mod, digits-rest, digits-join, digits-split, take-digits, drop-digits, pack-append, take-pack}
-use Rattle.bits.specs.Access.{Inside}
+use Rattle.rules.proofs.Fields.{length-digits, length-pack, val-digits-mod, digits-rest, digits-join, digits-split, take-digits, drop-digits, pack-append, take-pack, drop-pack}
+use Rattle.bits.specs.Access.{Inside, Put}
 use Rattle.bits.specs.Window.{Window, patched, bytesOf}
 
 -- ---- parts and pastes of an append
@@ -224,3 +224,19 @@ module _ (s : List ℕ) (at width after x : ℕ) (inside : Inside s at width) (s
         ∙ ap (take (8 * length s)) stored-bits
         ∙ take-at (paste (bits s) at d width) (bits zeros) (8 * length s)
         (length-paste (bits s) at d width bits-fit (omega (arith, length-digits width value)) ∙ length-pack 8 s)
+
+-- three bytes stored over three others
+pub three-laid : (s : List ℕ) (i x : ℕ) → i + 3 ≤ length s → bits (sets s i (bytesOf x)) ≡ paste (bits s) (8 * i) (digits 24 x) 24
+three-laid s i x h =
+    let end : 8 * (i + 3) ≡ 8 * i + 24 = omega arith in
+    ap bits (sets-eq (bytesOf x) s i h)
+    ∙ pack-append 8 (take i s ++ bytesOf x) (drop (i + 3) s)
+    ∙ rw (pack-append 8 (take i s) (bytesOf x), take-all 24 (digits 24 x) (omega (arith, length-digits 24 x)))
+    (ap₂ (λ (a b : List ℕ). a ++ b) (ap₂ (λ (a b : List ℕ). a ++ b) (sym (take-pack 8 i s)) (bits-bytesOf x))
+    (sym (drop-pack 8 (i + 3) s) ∙ ap (λ (k : ℕ). drop k (bits s)) end))
+
+pub three-put : (s : List ℕ) (i x : ℕ) → i + 3 ≤ length s
+    → Put s (8 * i) 24 x (set (set (set s i (x / 65536)) (i + 1) (x / 256 % 256)) (i + 2) (x % 256))
+three-put s i x h =
+    let stored : set (set (set s i (x / 65536)) (i + 1) (x / 256 % 256)) (i + 2) (x % 256) ≡ sets s i (bytesOf x) = sets-three s i (x / 65536) (x / 256 % 256) (x % 256) refl refl refl in
+    record { laid = ap bits stored ∙ three-laid s i x h; kept = ap length stored ∙ length-sets s i (bytesOf x) }

@@ -2,7 +2,7 @@
 // one that holds its first bit.
 ghost use mathlib.Core.Path.{_≡_};
 ghost use Prim.Native.Nat.{_+_, _*_, _/_, _%_, _^_, _≤_, _<_};
-ghost use lib.ListN.{getD, set};
+ghost use lib.ListN.{length, getD, set};
 ghost use lib.Seq.{sets};
 ghost use Rattle.bits.specs.Access.{Inside, Got, Put};
 ghost use Rattle.bits.specs.Window.{Window, patched, bytesOf};
@@ -25,6 +25,17 @@ pub fn put_bits(buf: &mut [u8], at: usize, width: usize, value: u16)
     let after = 24 - at % 8 - width;
     let old = three(buf, at);
     store_three(buf, at, patch(old, after, width, value));
+}
+
+// Writes a number of 24 bits over the three bytes from index i on.
+pub fn put_three(buf: &mut [u8], i: usize, x: u32)
+    requires { ⌜ i + 3 ≤ length (now buf) ⌝ }
+    requires { ⌜ x < 2 ^ 24 ⌝ }
+    ensures { λ _. ⌜ Put (now (buf .entry)) (8 * i) 24 x (now (buf .exit)) ⌝ }
+{
+    buf[i] = (x / 65536) as u8;
+    buf[i + 1] = (x / 256 % 256) as u8;
+    buf[i + 2] = (x % 256) as u8;
 }
 
 // The `width` bits of the number that stand above its low `after` bits.

@@ -3,15 +3,16 @@ use mathlib.Core.Path.{_≡_, refl, sym, ap, ap₂, _∙_}
 use mathlib.Core.List.{List, [], _∷_, _++_, append-assoc, append-nil}
 use Prim.Native.Nat.{ℕ, zero, suc, _+_, _*_, _≤_, _<_}
 use native.Mathlib.Nat.{add-zero, add-assoc, zero-add, not-suc-le-zero, le-of-suc-le-suc}
+use native.Mathlib.Numerals.{add-one}
 use native.Mathlib.Omega.{arith}
 use lib.ListN.{length, getD, take, drop, length-append, take-append-drop}
 use lib.Seq.{take-at, drop-at, drop-drop, take-all, length-take-le}
 use Rattle.rules.specs.Bits.{digits, bits, bytes, Below, nil}
 use Rattle.rules.specs.Sheet.{Entry, entry, entryBits, sheetBits, size, padding}
 use Rattle.rules.specs.Answers.{written}
-use Rattle.rules.proofs.Fields.{length-digits, length-pack, digits-join, pack-append, drop-pack, below-digits, below-append, below-drop, below-bytes, bits-bytes, bytes-bits, length-bytes}
+use Rattle.rules.proofs.Fields.{length-digits, length-pack, digits-join, pack-append, drop-pack, below-at, below-digits, below-append, below-drop, below-bytes, bits-bytes, bytes-bits, length-bytes}
 use Rattle.bits.specs.Access.{Put}
-use Rattle.writer.specs.Entered.{zipped, headBits, Writing, over, Laid}
+use Rattle.writer.specs.Entered.{zipped, headBits, nodeBits, fourBits, entered, Fields, Entering, Writing, over, Laid, Started}
 
 -- ---- laying bits
 
@@ -64,13 +65,6 @@ unfolding headBits
 head-digits ku kl n hl hn =
     digits-join 4 12 ku (omega arith) ∙ ap (λ (l : List ℕ). digits 4 ku ++ l) (digits-join 2 10 kl (omega arith))
 
-pub entry-digits : (f a : ℕ) → a < 16 → digits 6 (f * 16 + a) ≡ digits 2 f ++ digits 4 a
-entry-digits f a h = digits-join 2 4 f h
-
--- the bits of the first i entries
-abbrev pub entered : (kinds places : List ℕ) → ℕ → List ℕ
-entered kinds places i = entryBits (zipped (take i kinds) (take i places))
-
 pub entered-none : (kinds places : List ℕ) → entered kinds places 0 ≡ []
 unfolding entryBits zipped
 entered-none kinds places = refl
@@ -106,6 +100,72 @@ length-entered kinds places i e h =
 pub entered-all : (kinds places : List ℕ) (i : ℕ) → length places ≡ length kinds → i ≡ length kinds → entered kinds places i ≡ entryBits (zipped kinds places)
 entered-all kinds places i e n =
     ap₂ (λ (k p : List ℕ). entryBits (zipped k p)) (take-all i kinds (omega arith)) (take-all i places (omega arith))
+
+-- four numbers of six bits are one of 24
+pub four-digits : (a b c d : ℕ) {A B C D : List ℕ} → b < 64 → c < 64 → d < 64 → digits 6 a ≡ A → digits 6 b ≡ B → digits 6 c ≡ C → digits 6 d ≡ D
+    → digits 24 ((a * 64 + b) * 4096 + (c * 64 + d)) ≡ (A ++ B) ++ (C ++ D)
+four-digits a b c d hb hc hd ea eb ec ed =
+    digits-join 12 12 (a * 64 + b) (omega arith)
+    ∙ ap₂ (λ (x y : List ℕ). x ++ y) (digits-join 6 6 a hb ∙ ap₂ (λ (x y : List ℕ). x ++ y) ea eb) (digits-join 6 6 c hd ∙ ap₂ (λ (x y : List ℕ). x ++ y) ec ed)
+
+-- ---- nodes behind the head, as many as have been written
+
+module _ (kinds places : List ℕ) (f : Fields kinds places) where
+  pub node-lt : (i : ℕ) → i < length kinds → getD kinds i 0 * 16 + getD places i 0 < 64
+  node-lt i h = omega (arith, below-at (f .kind) i 0 h, below-at (f .place) i 0 (omega (arith, f .long)))
+
+  pub node-digits : (i : ℕ) → i < length kinds → digits 6 (getD kinds i 0 * 16 + getD places i 0) ≡ nodeBits kinds places i
+  node-digits i h = digits-join 2 4 (getD kinds i 0) (below-at (f .place) i 0 (omega (arith, f .long)))
+
+  entered-one : (i : ℕ) → i < length kinds → entered kinds places (i + 1) ≡ entered kinds places i ++ nodeBits kinds places i
+  entered-one i h = rw (add-one i) (entered-more kinds places i h (omega (arith, f .long)))
+
+  entered-two : (i : ℕ) → i + 2 ≤ length kinds
+      → entered kinds places (i + 2) ≡ entered kinds places i ++ (nodeBits kinds places i ++ nodeBits kinds places (i + 1))
+  entered-two i h =
+      ap (entered kinds places) (sym (add-assoc i 1 1))
+      ∙ entered-one (i + 1) (omega arith)
+      ∙ ap (λ (l : List ℕ). l ++ nodeBits kinds places (i + 1)) (entered-one i (omega arith))
+      ∙ append-assoc (entered kinds places i) (nodeBits kinds places i) (nodeBits kinds places (i + 1))
+
+  entered-four : (i : ℕ) → i + 4 ≤ length kinds → entered kinds places (i + 4) ≡ entered kinds places i ++ fourBits kinds places i
+  entered-four i h =
+      let two = nodeBits kinds places i ++ nodeBits kinds places (i + 1) in
+      let more = nodeBits kinds places (i + 2) ++ nodeBits kinds places (i + 3) in
+      ap (entered kinds places) (sym (add-assoc i 2 2))
+      ∙ entered-two (i + 2) (omega arith)
+      ∙ ap₂ (λ (l : List ℕ) (k : ℕ). l ++ (nodeBits kinds places (i + 2) ++ nodeBits kinds places k)) (entered-two i (omega arith)) (add-assoc i 2 1)
+      ∙ append-assoc (entered kinds places i) two more
+
+  module _ (s : List ℕ) (room : 2 ≤ length s) where
+    pub started-none : Started s kinds places 0 s
+    started-none = record { within = omega arith; laid = rw (entered-none kinds places) (laid-none s 16) }
+
+    started-more : (i i′ at : ℕ) (new s′ s″ : List ℕ) → i′ ≤ length kinds → at ≡ 16 + 6 * i → entered kinds places i′ ≡ entered kinds places i ++ new
+        → Started s kinds places i s′ → Laid s′ at new s″ → Started s kinds places i′ s″
+    started-more i i′ at new s′ s″ h e more p q =
+        record {
+          within = h;
+          laid =
+              rw more
+              (laid-more s s′ s″ 16 at (entered kinds places i) new (p .laid)
+              (omega (arith, length-entered kinds places i (f .long) (p .within))) (omega arith) q);
+        }
+
+    -- one more, or four
+    pub started-one : (i v : ℕ) (s′ s″ : List ℕ) → i < length kinds → digits 6 v ≡ nodeBits kinds places i → Started s kinds places i s′
+        → Put s′ (16 + 6 * i) 6 v s″ → Started s kinds places (i + 1) s″
+    started-one i v s′ s″ h e p q =
+        started-more i (i + 1) (16 + 6 * i) (nodeBits kinds places i) s′ s″ (omega arith) (omega arith) (entered-one i h) p
+        (rw e at (put-laid s′ s″ (16 + 6 * i) 6 v q))
+
+    pub started-four : (k v : ℕ) (s′ s″ : List ℕ) → 4 * k + 4 ≤ length kinds → digits 24 v ≡ fourBits kinds places (4 * k) → Started s kinds places (4 * k) s′
+        → Put s′ (8 * (2 + 3 * k)) 24 v s″ → Started s kinds places (4 * (k + 1)) s″
+    started-four k v s′ s″ h e p q =
+        let next : 4 * k + 4 ≡ 4 * (k + 1) = omega arith in
+        rw next at
+        (started-more (4 * k) (4 * k + 4) (8 * (2 + 3 * k)) (fourBits kinds places (4 * k)) s′ s″ h (omega arith) (entered-four (4 * k) h) p
+        (rw e at (put-laid s′ s″ (8 * (2 + 3 * k)) 24 v q)))
 
 -- ---- the whole sheet
 

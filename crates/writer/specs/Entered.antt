@@ -2,9 +2,9 @@
 use mathlib.Core.Path.{_≡_}
 use mathlib.Core.List.{List, [], _∷_, _++_}
 use Prim.Native.Nat.{ℕ, _+_, _*_, _≤_}
-use lib.ListN.{length, take, drop}
+use lib.ListN.{length, getD, take, drop}
 use Rattle.rules.specs.Bits.{digits, bits, Below}
-use Rattle.rules.specs.Sheet.{Entry, entry, size}
+use Rattle.rules.specs.Sheet.{Entry, entry, entryBits, size}
 
 -- the entries of kind fields with the nets above each
 unfoldable pub zipped : (kinds places : List ℕ) → List Entry
@@ -16,6 +16,19 @@ zipped (f ∷ kinds) (a ∷ places) = entry f a ∷ zipped kinds places
 unfoldable pub headBits : (ku kl n : ℕ) → List ℕ
 headBits ku kl n = digits 4 ku ++ (digits 2 kl ++ digits 10 n)
 
+-- the bits of node i
+abbrev pub nodeBits : (kinds places : List ℕ) → ℕ → List ℕ
+nodeBits kinds places i = digits 2 (getD kinds i 0) ++ digits 4 (getD places i 0)
+
+-- the bits of the four nodes from i on
+abbrev pub fourBits : (kinds places : List ℕ) → ℕ → List ℕ
+fourBits kinds places i =
+    (nodeBits kinds places i ++ nodeBits kinds places (i + 1)) ++ (nodeBits kinds places (i + 2) ++ nodeBits kinds places (i + 3))
+
+-- the bits of the first i nodes
+abbrev pub entered : (kinds places : List ℕ) → ℕ → List ℕ
+entered kinds places i = entryBits (zipped (take i kinds) (take i places))
+
 -- a head that fits its fields, and has room
 pub record Heading (buf : List ℕ) (ku kl n : ℕ) : Type 0 where
   pub upper : ku ≤ 3
@@ -23,12 +36,16 @@ pub record Heading (buf : List ℕ) (ku kl n : ℕ) : Type 0 where
   pub few : n ≤ 512
   pub room : 2 ≤ length buf
 
--- entries that fit their fields, and have room behind the head
-pub record Entering (buf kinds places : List ℕ) : Type 0 where
+-- kind fields and places, as many of each, that fit their fields
+pub record Fields (kinds places : List ℕ) : Type 0 where
   pub long : length places ≡ length kinds
-  pub few : length kinds ≤ 512
   pub kind : Below 4 kinds
   pub place : Below 16 places
+
+-- entries that fit their fields, and have room behind the head
+pub record Entering (buf kinds places : List ℕ) : Type 0 where
+  pub fields : Fields kinds places
+  pub few : length kinds ≤ 512
   pub room : 16 + 6 * length kinds ≤ 8 * length buf
 
 -- a sheet that fits its fields, and has room
@@ -49,3 +66,8 @@ over l at new = take at l ++ (new ++ drop (at + length new) l)
 pub record Laid (s : List ℕ) (at : ℕ) (new s′ : List ℕ) : Type 0 where
   pub is : bits s′ ≡ over (bits s) at new
   pub kept : length s′ ≡ length s
+
+-- the bits of the first r nodes stand behind the head
+pub record Started (s kinds places : List ℕ) (r : ℕ) (s′ : List ℕ) : Type 0 where
+  pub within : r ≤ length kinds
+  pub laid : Laid s 16 (entered kinds places r) s′

@@ -1,10 +1,11 @@
 // The sheet of kind fields and places, written to the start of a buffer or of a part of one.
 ghost use mathlib.Core.Path.{_≡_};
-ghost use Prim.Native.Nat.{_≤_};
-ghost use Rattle.rules.specs.Bits.{bytes};
+ghost use Prim.Native.Nat.{_+_, _^_, _≤_, _<_};
+ghost use lib.ListN.{length};
+ghost use Rattle.rules.specs.Bits.{digits, bytes};
 ghost use Rattle.rules.specs.Sheet.{sheetBits, entryBits, size};
 ghost use Rattle.rules.specs.Answers.{written};
-ghost use Rattle.writer.specs.Entered.{zipped, headBits, Heading, Entering, Writing, Laid};
+ghost use Rattle.writer.specs.Entered.{zipped, headBits, nodeBits, fourBits, Heading, Fields, Entering, Writing, Laid, Started};
 
 // The bytes of a sheet of n nodes.
 pub fn sheet_size(n: usize) -> usize
@@ -36,16 +37,50 @@ fn write_head(buf: &mut [u8], ku: u8, kl: u8, n: usize)
     bits::put_bits(buf, 0, 16, upper * 4096 + (lower * 1024 + n as u16));
 }
 
-// Writes six bits a node behind the head: its kind field in 2, the nets above its own in 4.
+// Writes six bits a node behind the head.
 fn write_entries(buf: &mut [u8], kinds: &[u8], places: &[u8])
     requires { ⌜ Entering (now buf) (now kinds) (now places) ⌝ }
     ensures { λ _. ⌜ Laid (now (buf .entry)) 16 (entryBits (zipped (now (kinds .entry)) (now (places .entry)))) (now (buf .exit)) ⌝ }
 {
-    let mut i = 0;
+    let mut i = write_fours(buf, kinds, places);
     while i < kinds.len() {
-        let kind = kinds[i] as u16;
-        let place = places[i] as u16;
-        bits::put_bits(buf, 16 + 6 * i, 6, kind * 16 + place);
+        bits::put_bits(buf, 16 + 6 * i, 6, entry(kinds, places, i) as u16);
         i += 1;
     }
+}
+
+// Writes the nodes behind the head as long as four are left, which fill three bytes, and tells how many nodes it wrote.
+fn write_fours(buf: &mut [u8], kinds: &[u8], places: &[u8]) -> usize
+    requires { ⌜ Entering (now buf) (now kinds) (now places) ⌝ }
+    ensures { λ r. ⌜ Started (now (buf .entry)) (now (kinds .entry)) (now (places .entry)) r (now (buf .exit)) ⌝ }
+{
+    let fours = kinds.len() / 4;
+    let mut k = 0;
+    while k < fours {
+        bits::put_three(buf, 2 + 3 * k, four(kinds, places, 4 * k));
+        k += 1;
+    }
+    4 * fours
+}
+
+// The 24 bits of four nodes.
+fn four(kinds: &[u8], places: &[u8], i: usize) -> u32
+    requires { ⌜ Fields (now kinds) (now places) ⌝ }
+    requires { ⌜ i + 4 ≤ length (now kinds) ⌝ }
+    ensures { λ r. ⌜ (digits 24 r ≡ fourBits (now (kinds .entry)) (now (places .entry)) i) × (r < 2 ^ 24) ⌝ }
+{
+    let upper = entry(kinds, places, i) * 64 + entry(kinds, places, i + 1);
+    let lower = entry(kinds, places, i + 2) * 64 + entry(kinds, places, i + 3);
+    upper * 4096 + lower
+}
+
+// The six bits of a node: its kind field in 2, the nets above its own in 4.
+fn entry(kinds: &[u8], places: &[u8], i: usize) -> u32
+    requires { ⌜ Fields (now kinds) (now places) ⌝ }
+    requires { ⌜ i < length (now kinds) ⌝ }
+    ensures { λ r. ⌜ (digits 6 r ≡ nodeBits (now (kinds .entry)) (now (places .entry)) i) × (r < 64) ⌝ }
+{
+    let kind = kinds[i] as u32;
+    let place = places[i] as u32;
+    kind * 16 + place
 }

@@ -1,39 +1,31 @@
--- `writer::write_entries` meets its contract. The loop's invariant: the entries passed are laid behind the head. Assumes nothing.
-use mathlib.Core.List.{_++_}
-use Prim.Native.Nat.{ℕ, _+_, _-_, _*_, _≤_}
-use native.Mathlib.Numerals.{add-one}
+-- `writer::write_entries` meets its contract. The loop's invariant: as the fours before it were laid behind the head, so are the nodes passed. Assumes nothing.
+use mathlib.Core.Path.{_≡_, refl, _∙_}
+use mathlib.Core.List.{List}
+use Prim.Native.Nat.{ℕ, _-_, _≤_}
 use native.Mathlib.Omega.{arith}
-use lib.ListN.{length, getD}
-use Rattle.rules.specs.Bits.{digits}
-use Rattle.rules.proofs.Fields.{below-at}
-use Rattle.writer.specs.Entered.{Laid}
-use Rattle.writer.proofs.Laying.{laid-none, laid-more, put-laid, entry-digits, entered, entered-none, entered-more, length-entered, entered-all}
+use lib.ListN.{length}
+use Rattle.writer.specs.Entered.{Started}
+use Rattle.writer.proofs.Laying.{started-one, entered-all}
 use Rattle.writer.proofs.write_entries.Statement.{statement}
 use Rattle.writer.proofs.write_entries.Tie as tie
-use Rattle.bits.proofs.put_bits.Reads as put-bits-reads
+
+record Onward (buf₀ kinds places : List ℕ) (i₀ : ℕ) (buf : List ℕ) (i : ℕ) : Type 0 where
+  within : i ≤ length kinds
+  kept : length buf ≡ length buf₀
+  started : (s : List ℕ) → 2 ≤ length s → Started s kinds places i₀ buf₀ → Started s kinds places i buf
 
 abbrev Inv-loop : tie.InvT-loop
-Inv-loop buf₀ kinds places i₀ buf i = (i ≤ length kinds) × Laid buf₀ 16 (entered kinds places i) buf
+Inv-loop buf₀ kinds places i₀ buf i = Onward buf₀ kinds places i₀ buf i
 
 abbrev μ-loop : tie.MeasureT-loop
 μ-loop buf₀ kinds places i₀ buf i = length kinds - i
 
+write-fours-requires : tie.Need-write-fours-requires Inv-loop μ-loop
+write-fours-requires c κs = c .before .before .before .before .pre
+
 loop-holds : tie.Need-loop-holds Inv-loop μ-loop
 loop-holds c =
-    let g = c .before .before .before .args in
-    (omega arith, rw (entered-none (g .kinds .now) (g .places .now)) (laid-none (g .buf .now) 16))
-
-shared-slice-read-kind : tie.Need-shared-slice-read-kind Inv-loop μ-loop
-shared-slice-read-kind c = omega arith
-
-cast-kind : tie.Need-cast-kind Inv-loop μ-loop
-cast-kind c = omega (arith, below-at (c .before .before .before .before .before .before .pre .kind) (c .before .before .loop .i) 0 (omega arith))
-
-shared-slice-read-place : tie.Need-shared-slice-read-place Inv-loop μ-loop
-shared-slice-read-place c = omega arith
-
-cast-place : tie.Need-cast-place Inv-loop μ-loop
-cast-place c = omega (arith, below-at (c .before .before .before .before .before .before .before .pre .place) (c .before .before .before .loop .i) 0 (omega arith))
+    record { within = c .before .before .write-fours .ensures .within; kept = refl; started = λ s h p. p }
 
 mul-put-bits : tie.Need-mul-put-bits Inv-loop μ-loop
 mul-put-bits c = omega arith
@@ -41,23 +33,17 @@ mul-put-bits c = omega arith
 add-put-bits : tie.Need-add-put-bits Inv-loop μ-loop
 add-put-bits c = omega arith
 
-mul-put-bits-2 : tie.Need-mul-put-bits-2 Inv-loop μ-loop
-mul-put-bits-2 c =
-    let w = c .before .before .before .before .before .before .before .before .pre in
-    let i = c .before .before .before .before .loop .i in
-    omega (arith, below-at (w .kind) i 0 (omega arith), below-at (w .place) i 0 (omega arith))
+entry-requires : tie.Need-entry-requires Inv-loop μ-loop
+entry-requires c κs = (c .before .before .before .before .before .before .before .before .before .before .pre .fields, omega arith)
 
-add-put-bits-2 : tie.Need-add-put-bits-2 Inv-loop μ-loop
-add-put-bits-2 c =
-    let w = c .before .before .before .before .before .before .before .before .pre in
-    let i = c .before .before .before .before .loop .i in
-    omega (arith, below-at (w .kind) i 0 (omega arith), below-at (w .place) i 0 (omega arith))
+cast-put-bits : tie.Need-cast-put-bits Inv-loop μ-loop
+cast-put-bits c = omega (arith, c .entry .ensures .1)
 
 put-bits-requires : tie.Need-put-bits-requires Inv-loop μ-loop
 put-bits-requires c κs =
-    let w = c .before .before .before .before .before .before .before .before .pre in
-    let i = c .before .before .before .before .loop .i in
-    omega (arith, c .before .before .before .before .loop .inv .1 .kept, below-at (w .kind) i 0 (omega arith), below-at (w .place) i 0 (omega arith))
+    let w = c .before .before .before .before .before .before .before .before .before .before .before .pre in
+    let fours = c .before .before .before .before .before .before .write-fours .ensures in
+    (omega (arith, w .room, c .before .before .before .loop .inv .kept, fours .laid .kept), c .entry .ensures .1)
 
 add-i : tie.Need-add-i Inv-loop μ-loop
 add-i c = omega arith
@@ -67,31 +53,28 @@ loop-less c = omega arith
 
 loop-again : tie.Need-loop-again Inv-loop μ-loop
 loop-again c =
-    let s = c .before .before .before .before .before .before .before .before .before .before .before in
-    let g = s .args in
-    let l = c .before .before .before .before .before .before .before .loop in
+    let g = c .before .before .before .before .before .before .before .before .before .before .before .before .before .before .args in
+    let w = c .before .before .before .before .before .before .before .before .before .before .before .before .before .before .pre in
+    let l = c .before .before .before .before .before .before .loop in
+    let x = c .before .before .before .entry in
     let p = c .before .before .put-bits in
-    let k : ℕ = getD (g .kinds .now) (l .i) 0 in
-    let a : ℕ = getD (g .places .now) (l .i) 0 in
-    let laid = put-laid (l .buf) (p .last .0) (16 + 6 * l .i) 6 (k * 16 + a) (p .ensures) in
-    rw (add-one (l .i)) (
-      omega arith,
-      rw (entered-more (g .kinds .now) (g .places .now) (l .i) (omega arith) (omega arith))
-          (laid-more (g .buf .now) (l .buf) (p .last .0) 16 (16 + 6 * l .i) (entered (g .kinds .now) (g .places .now) (l .i)) (digits 2 k ++ digits 4 a) (l .inv .1)
-          (omega (arith, length-entered (g .kinds .now) (g .places .now) (l .i) (s .pre .long) (l .inv .0)))
-          (omega arith)
-          (rw (entry-digits k a (below-at (s .pre .place) (l .i) 0 (omega arith))) at laid)),
-    )
+    record {
+      within = omega arith;
+      kept = p .ensures .kept ∙ l .inv .kept;
+      started =
+          λ s h q. started-one (g .kinds .now) (g .places .now) (w .fields) s h (l .i) (x .result) (l .buf) (p .last .0) (omega arith) (x .ensures .0) (l .inv .started s h q) (p .ensures);
+    }
 
 same-length : tie.Need-same-length Inv-loop μ-loop
-same-length c = c .before .loop .inv .1 .kept
+same-length c = c .before .loop .inv .kept ∙ c .before .before .before .before .write-fours .ensures .laid .kept
 
 returns : tie.Need-returns Inv-loop μ-loop
 returns c =
-    let s = c .before .before .before .before .before in
+    let s = c .before .before .before .before .before .before .before .before .before in
     let g = s .args in
     let l = c .before .loop in
-    rw (entered-all (g .kinds .now) (g .places .now) (l .i) (s .pre .long) (omega arith)) at (l .inv .1)
+    let started = l .inv .started (g .buf .now) (omega (arith, s .pre .room)) (c .before .before .before .before .write-fours .ensures) in
+    rw (entered-all (g .kinds .now) (g .places .now) (l .i) (s .pre .fields .long) (omega arith)) at (started .laid)
 
 pub write-entries-spec : {M : Type 1} → statement M
 write-entries-spec =
@@ -99,15 +82,12 @@ write-entries-spec =
     (tie.spec
     Inv-loop
     μ-loop
+    write-fours-requires
     loop-holds
-    shared-slice-read-kind
-    cast-kind
-    shared-slice-read-place
-    cast-place
     mul-put-bits
     add-put-bits
-    mul-put-bits-2
-    add-put-bits-2
+    entry-requires
+    cast-put-bits
     put-bits-requires
     add-i
     loop-less

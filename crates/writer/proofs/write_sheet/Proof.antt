@@ -20,10 +20,8 @@ unfolding size
 write-entries-requires c κs =
     let w = c .before .before .before .before .before .before .before .before .pre in
     record {
-      long = w .long;
+      fields = record { long = w .long; kind = w .kind; place = w .place };
       few = w .few;
-      kind = w .kind;
-      place = w .place;
       room = omega (arith, w .room, c .before .before .before .write-head .ensures .kept);
     }
 
