@@ -1,8 +1,10 @@
 // The state of the street rules: an order of open nets by value, and the three limits at a node.
 use rules::Limits;
 ghost use mathlib.Core.Path.{_≡_};
-ghost use Prim.Native.Nat.{suc, _≤_, _<_};
-ghost use lib.ListN.{getD};
+ghost use mathlib.Core.List.{_++_};
+ghost use Prim.Native.Nat.{suc, _-_, _≤_, _<_};
+ghost use lib.ListN.{length, getD, take, drop};
+ghost use Rattle.rules.specs.Basic.{put, cut};
 ghost use Rattle.rules.specs.Street.{limits};
 ghost use Rattle.street.specs.Order.{capacity, listed, Sound, Emptied, Inserted, Found, Removed};
 
@@ -31,21 +33,10 @@ impl Order {
         requires { ⌜ Sound self × (self .count < capacity) × (k ≤ self .count) ⌝ }
         ensures { λ r. ⌜ Inserted self k x r ⌝ }
     {
-        let mut nets = self.nets;
-        let count = self.count;
-        let mut carry = x;
-        let mut i = k;
-        while i < count {
-            let moved = nets[i];
-            nets[i] = carry;
-            carry = moved;
-            i += 1;
-        }
-        nets[count] = carry;
-        Order {
-            nets,
-            count: count + 1,
-        }
+        let held = self.nets;
+        let nets = with(held, k, x);
+        let count = self.count + 1;
+        Order { nets, count }
     }
 
     // How many labels stand before the first x: the count, where x is not open.
@@ -55,12 +46,23 @@ impl Order {
     {
         let nets = self.nets;
         let count = self.count;
-        let mut i = 0;
-        while i < count {
-            if nets[i] == x {
-                return i;
-            }
-            i += 1;
+        if nets[0] == x {
+            return 0;
+        }
+        if nets[1] == x {
+            return capped(1, count);
+        }
+        if nets[2] == x {
+            return capped(2, count);
+        }
+        if nets[3] == x {
+            return capped(3, count);
+        }
+        if nets[4] == x {
+            return capped(4, count);
+        }
+        if nets[5] == x {
+            return capped(5, count);
         }
         count
     }
@@ -70,14 +72,10 @@ impl Order {
         requires { ⌜ Sound self × (k < self .count) ⌝ }
         ensures { λ r. ⌜ Removed self k r ⌝ }
     {
-        let mut nets = self.nets;
-        let last = self.count - 1;
-        let mut gap = k;
-        while gap < last {
-            nets[gap] = nets[gap + 1];
-            gap += 1;
-        }
-        Order { nets, count: last }
+        let held = self.nets;
+        let nets = without(held, k);
+        let count = self.count - 1;
+        Order { nets, count }
     }
 
     // The label behind k others.
@@ -88,6 +86,57 @@ impl Order {
         let nets = self.nets;
         nets[k]
     }
+}
+
+// Cells with x put behind k others; what the last one held is lost. With no loop, so that an order stays in registers.
+fn with(nets: [u8; CAPACITY], k: usize, x: u8) -> [u8; CAPACITY]
+    requires { ⌜ (length nets ≡ capacity) × (k < capacity) ⌝ }
+    ensures { λ r. ⌜ r ≡ take capacity (put k x nets) ⌝ }
+{
+    let a = nets[0];
+    let b = nets[1];
+    let c = nets[2];
+    let d = nets[3];
+    let e = nets[4];
+    match k {
+        0 => [x, a, b, c, d, e],
+        1 => [a, x, b, c, d, e],
+        2 => [a, b, x, c, d, e],
+        3 => [a, b, c, x, d, e],
+        4 => [a, b, c, d, x, e],
+        _ => [a, b, c, d, e, x],
+    }
+}
+
+// Cells without the one behind k others; the last one stands twice.
+fn without(nets: [u8; CAPACITY], k: usize) -> [u8; CAPACITY]
+    requires { ⌜ (length nets ≡ capacity) × (k < capacity) ⌝ }
+    ensures { λ r. ⌜ r ≡ cut k nets ++ drop 5 nets ⌝ }
+{
+    let a = nets[0];
+    let b = nets[1];
+    let c = nets[2];
+    let d = nets[3];
+    let e = nets[4];
+    let f = nets[5];
+    match k {
+        0 => [b, c, d, e, f, f],
+        1 => [a, c, d, e, f, f],
+        2 => [a, b, d, e, f, f],
+        3 => [a, b, c, e, f, f],
+        4 => [a, b, c, d, f, f],
+        _ => [a, b, c, d, e, f],
+    }
+}
+
+// The lesser of a cell's number and the count.
+fn capped(i: usize, count: usize) -> usize
+    ensures { λ r. ⌜ r ≡ i - (i - count) ⌝ }
+{
+    if i < count {
+        return i;
+    }
+    count
 }
 
 // Which of the three limits a wire with `above` wires over it, of b at the node, breaks.

@@ -1,85 +1,113 @@
--- `street::Order::find` meets its contract. The loop's invariant: the labels passed, and those before x in what is left, are those
--- before x. It is kept by `before-past` and ends by `before-at`, or by `before-le` where x is not open. Assumes nothing.
-use mathlib.Core.Path.{_≡_, sym, _∙_}
-use mathlib.Core.List.{List}
-use Prim.Native.Nat.{ℕ, _+_, _-_, _≤_}
-use native.Mathlib.Nat.{zero-add}
-use native.Mathlib.Numerals.{add-one}
+-- `street::Order::find` meets its contract: the first cell with x says where it stands, by `found`, or none has it. Assumes nothing.
+use mathlib.Core.Path.{refl}
 use native.Mathlib.Omega.{arith}
-use lib.ListN.{length, take, drop}
-use lib.Seq.{getD-take}
 use Rattle.rules.specs.Row.{before}
-use Rattle.street.specs.Order.{listed}
-use Rattle.rules.proofs.Lists.{before-le}
-use Rattle.street.proofs.Orders.{before-at, before-past, length-listed}
+use Rattle.street.proofs.Cells.{found, past, here}
+use borrow.Author.Needs.{needs}
 use Rattle.street.proofs.Order.find.Statement.{statement}
 use Rattle.street.proofs.Order.find.Tie as tie
 
-record Passed (x : ℕ) (l : List ℕ) (count i : ℕ) : Type 0 where
-  long : length l ≡ count
-  within : i ≤ count
-  same : i + before x (drop i l) ≡ before x l
+array-read-if1 : tie.Need-array-read-if1
+array-read-if1 c = search needs
 
-abbrev Inv-loop : tie.InvT-loop
-Inv-loop x nets count i₀ i = Passed x (take count nets) count i
-
-abbrev μ-loop : tie.MeasureT-loop
-μ-loop x nets count i₀ i = count - i
-
-loop-holds : tie.Need-loop-holds Inv-loop μ-loop
-loop-holds c =
-    let s = c .before .args .self in
-    record {
-      long = length-listed s (c .before .pre);
-      within = omega arith;
-      same = zero-add (before (c .before .args .x) (listed s));
-    }
-
-array-read-if1 : tie.Need-array-read-if1 Inv-loop μ-loop
-array-read-if1 c = omega arith
-
-returns : tie.Need-returns Inv-loop μ-loop
+returns : tie.Need-returns
 returns c =
-    let a = c .before .before .before .before .args in
-    let l = c .before .before .loop in
-    let here = getD-take (a .self .count) (a .self .nets) (l .i) 0 (c .before .loop-test .taken) ∙ c .if1 .taken in
-    record {
-      place = omega (arith, before-at (a .x) (l .i) (listed (a .self)) (omega arith) here);
-      within = omega arith;
-    }
+    let o = c .before .before .args .self in
+    let x = c .before .before .args .x in
+    let k = c .before .before .pre in
+    found o k x 0 0 (omega (arith, here o k x 0 (omega arith) (c .if1 .taken))) (omega arith)
 
-add-i : tie.Need-add-i Inv-loop μ-loop
-add-i c = omega arith
+array-read-if2 : tie.Need-array-read-if2
+array-read-if2 c = search needs
 
-loop-less : tie.Need-loop-less Inv-loop μ-loop
-loop-less c = omega arith
+capped-requires : tie.Need-capped-requires
+capped-requires c κs = search needs
 
-loop-again : tie.Need-loop-again Inv-loop μ-loop
-loop-again c =
-    let a = c .before .before .before .before .args in
-    let l = c .before .before .loop in
-    let cell = getD-take (a .self .count) (a .self .nets) (l .i) 0 (c .before .loop-test .taken) in
-    record {
-      long = l .inv .long;
-      within = omega arith;
-      same = rw (add-one (l .i)) (omega (arith, before-past (a .x) (l .i) (listed (a .self)) (omega arith) (λ e. c .if1 .left (sym cell ∙ e))));
-    }
-
-returns-2 : tie.Need-returns-2 Inv-loop μ-loop
+returns-2 : tie.Need-returns-2
 returns-2 c =
-    let a = c .before .before .before .args in
-    record { place = omega (arith, before-le (a .x) (listed (a .self))); within = omega arith }
+    let o = c .before .before .before .before .args .self in
+    let x = c .before .before .before .before .args .x in
+    let k = c .before .before .before .before .pre in
+    found o k x 1 (c .capped .result) (omega (arith, past o k x 0 (omega arith) (c .before .before .if1 .left), here o k x 1 (omega arith) (c .before .if2 .taken))) (c .capped .ensures)
+
+array-read-if3 : tie.Need-array-read-if3
+array-read-if3 c = search needs
+
+capped-requires-2 : tie.Need-capped-requires-2
+capped-requires-2 c κs = search needs
+
+returns-3 : tie.Need-returns-3
+returns-3 c =
+    let o = c .before .before .before .before .before .args .self in
+    let x = c .before .before .before .before .before .args .x in
+    let k = c .before .before .before .before .before .pre in
+    found o k x 2 (c .capped2 .result) (omega (arith, past o k x 0 (omega arith) (c .before .before .before .if1 .left), past o k x 1 (omega arith) (c .before .before .if2 .left), here o k x 2 (omega arith) (c .before .if3 .taken))) (c .capped2 .ensures)
+
+array-read-if4 : tie.Need-array-read-if4
+array-read-if4 c = search needs
+
+capped-requires-3 : tie.Need-capped-requires-3
+capped-requires-3 c κs = search needs
+
+returns-4 : tie.Need-returns-4
+returns-4 c =
+    let o = c .before .before .before .before .before .before .args .self in
+    let x = c .before .before .before .before .before .before .args .x in
+    let k = c .before .before .before .before .before .before .pre in
+    found o k x 3 (c .capped3 .result) (omega (arith, past o k x 0 (omega arith) (c .before .before .before .before .if1 .left), past o k x 1 (omega arith) (c .before .before .before .if2 .left), past o k x 2 (omega arith) (c .before .before .if3 .left), here o k x 3 (omega arith) (c .before .if4 .taken))) (c .capped3 .ensures)
+
+array-read-if5 : tie.Need-array-read-if5
+array-read-if5 c = search needs
+
+capped-requires-4 : tie.Need-capped-requires-4
+capped-requires-4 c κs = search needs
+
+returns-5 : tie.Need-returns-5
+returns-5 c =
+    let o = c .before .before .before .before .before .before .before .args .self in
+    let x = c .before .before .before .before .before .before .before .args .x in
+    let k = c .before .before .before .before .before .before .before .pre in
+    found o k x 4 (c .capped4 .result) (omega (arith, past o k x 0 (omega arith) (c .before .before .before .before .before .if1 .left), past o k x 1 (omega arith) (c .before .before .before .before .if2 .left), past o k x 2 (omega arith) (c .before .before .before .if3 .left), past o k x 3 (omega arith) (c .before .before .if4 .left), here o k x 4 (omega arith) (c .before .if5 .taken))) (c .capped4 .ensures)
+
+array-read-if6 : tie.Need-array-read-if6
+array-read-if6 c = search needs
+
+capped-requires-5 : tie.Need-capped-requires-5
+capped-requires-5 c κs = search needs
+
+returns-6 : tie.Need-returns-6
+returns-6 c =
+    let o = c .before .before .before .before .before .before .before .before .args .self in
+    let x = c .before .before .before .before .before .before .before .before .args .x in
+    let k = c .before .before .before .before .before .before .before .before .pre in
+    found o k x 5 (c .capped5 .result) (omega (arith, past o k x 0 (omega arith) (c .before .before .before .before .before .before .if1 .left), past o k x 1 (omega arith) (c .before .before .before .before .before .if2 .left), past o k x 2 (omega arith) (c .before .before .before .before .if3 .left), past o k x 3 (omega arith) (c .before .before .before .if4 .left), past o k x 4 (omega arith) (c .before .before .if5 .left), here o k x 5 (omega arith) (c .before .if6 .taken))) (c .capped5 .ensures)
+
+returns-7 : tie.Need-returns-7
+returns-7 c =
+    let o = c .before .before .before .before .before .before .before .args .self in
+    let x = c .before .before .before .before .before .before .before .args .x in
+    let k = c .before .before .before .before .before .before .before .pre in
+    found o k x (before x (o .nets)) (o .count) refl (omega (arith, past o k x 0 (omega arith) (c .before .before .before .before .before .if1 .left), past o k x 1 (omega arith) (c .before .before .before .before .if2 .left), past o k x 2 (omega arith) (c .before .before .before .if3 .left), past o k x 3 (omega arith) (c .before .before .if4 .left), past o k x 4 (omega arith) (c .before .if5 .left), past o k x 5 (omega arith) (c .if6 .left), k .few))
 
 pub find-spec : {M : Type 1} → statement M
 find-spec =
     tie.close
     (tie.spec
-    Inv-loop
-    μ-loop
-    loop-holds
     array-read-if1
     returns
-    add-i
-    loop-less
-    loop-again
-    returns-2)
+    array-read-if2
+    capped-requires
+    returns-2
+    array-read-if3
+    capped-requires-2
+    returns-3
+    array-read-if4
+    capped-requires-3
+    returns-4
+    array-read-if5
+    capped-requires-4
+    returns-5
+    array-read-if6
+    capped-requires-5
+    returns-6
+    returns-7)
