@@ -8,7 +8,7 @@ use native.Mathlib.Nat.{not-suc-le-zero, le-of-suc-le-suc}
 use native.Mathlib.Numerals.{add-one}
 use native.Mathlib.Omega.{arith}
 use lib.Dec.{eqb}
-use lib.ListN.{length, getD, take, drop, length-append, length-drop}
+use lib.ListN.{length, getD, take, drop, length-append}
 use lib.Seq.{take-append-le, take-take, length-take-le}
 use Rattle.rules.specs.Basic.{pick, tabulate, put, cut}
 use Rattle.rules.specs.Row.{before}
@@ -34,8 +34,8 @@ module _ (l : List ℕ) (long : length l ≡ capacity) where
   pub six-put : (k j x : ℕ) → k ≡ j → take capacity (put j x (six l)) ≡ take capacity (put k x l)
   six-put k j x e = ap₂ (λ (i : ℕ) (m : List ℕ). take capacity (put i x m)) (sym e) six-cells
 
-  pub six-cut : (k j : ℕ) → k ≡ j → cut j (six l) ++ drop 5 (six l) ≡ cut k l ++ drop 5 l
-  six-cut k j e = ap₂ (λ (i : ℕ) (m : List ℕ). cut i m ++ drop 5 m) (sym e) six-cells
+  pub six-cut : (k j : ℕ) → k ≡ j → cut j (six l) ++ (0 ∷ []) ≡ cut k l ++ (0 ∷ [])
+  six-cut k j e = ap₂ (λ (i : ℕ) (m : List ℕ). cut i m ++ (0 ∷ [])) (sym e) six-cells
 
 -- ---- the first of them
 
@@ -70,18 +70,18 @@ module _ (o : Order) (s : Sound o) (k : ℕ) (nets : List ℕ) where
         count = refl;
       }
 
-  pub removed : k < o .count → nets ≡ cut k (o .nets) ++ drop 5 (o .nets)
+  pub removed : k < o .count → nets ≡ cut k (o .nets) ++ (0 ∷ [])
       → Removed o k (record { nets = nets; count = o .count - 1 })
   removed h e =
       let cells : length nets ≡ capacity =
       ap length e
-      ∙ omega (arith, length-append (cut k (o .nets)) (drop 5 (o .nets)), length-cut k (o .nets) (omega (arith, s .cells, s .few)), length-drop 5 (o .nets), s .cells) in
+      ∙ omega (arith, length-append (cut k (o .nets)) (0 ∷ []), length-cut k (o .nets) (omega (arith, s .cells, s .few)), s .cells) in
       let all : suc (o .count - 1) ≡ o .count = omega arith in
       record {
         sound = record { cells = cells; few = omega (arith, s .few) };
         list =
             ap (take (o .count - 1)) e
-            ∙ cut-taken (o .count - 1) k (o .nets) (drop 5 (o .nets)) (omega arith) (omega (arith, s .cells, s .few))
+            ∙ cut-taken (o .count - 1) k (o .nets) (0 ∷ []) (omega arith) (omega (arith, s .cells, s .few))
             ∙ ap (λ (n : ℕ). cut k (take n (o .nets))) all;
         count = omega arith;
       }

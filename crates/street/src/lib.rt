@@ -1,9 +1,9 @@
 // The state of the street rules: an order of open nets by value, and the three limits at a node.
 use rules::Limits;
 ghost use mathlib.Core.Path.{_≡_};
-ghost use mathlib.Core.List.{_++_};
+ghost use mathlib.Core.List.{[], _∷_, _++_};
 ghost use Prim.Native.Nat.{suc, _-_, _≤_, _<_};
-ghost use lib.ListN.{length, getD, take, drop};
+ghost use lib.ListN.{length, getD, take};
 ghost use Rattle.rules.specs.Basic.{put, cut};
 ghost use Rattle.rules.specs.Street.{limits};
 ghost use Rattle.street.specs.Order.{capacity, listed, Sound, Emptied, Inserted, Found, Removed};
@@ -88,7 +88,7 @@ impl Order {
     }
 }
 
-// Cells with x put behind k others; what the last one held is lost. With no loop, so that an order stays in registers.
+// Cells with x put behind k others; what the last one held is lost. With no loop, so that an order stays in a register.
 fn with(nets: [u8; CAPACITY], k: usize, x: u8) -> [u8; CAPACITY]
     requires { ⌜ (length nets ≡ capacity) × (k < capacity) ⌝ }
     ensures { λ r. ⌜ r ≡ take capacity (put k x nets) ⌝ }
@@ -108,10 +108,10 @@ fn with(nets: [u8; CAPACITY], k: usize, x: u8) -> [u8; CAPACITY]
     }
 }
 
-// Cells without the one behind k others; the last one stands twice.
+// Cells without the one behind k others, and a free one at the end.
 fn without(nets: [u8; CAPACITY], k: usize) -> [u8; CAPACITY]
     requires { ⌜ (length nets ≡ capacity) × (k < capacity) ⌝ }
-    ensures { λ r. ⌜ r ≡ cut k nets ++ drop 5 nets ⌝ }
+    ensures { λ r. ⌜ r ≡ cut k nets ++ (0 ∷ []) ⌝ }
 {
     let a = nets[0];
     let b = nets[1];
@@ -120,12 +120,12 @@ fn without(nets: [u8; CAPACITY], k: usize) -> [u8; CAPACITY]
     let e = nets[4];
     let f = nets[5];
     match k {
-        0 => [b, c, d, e, f, f],
-        1 => [a, c, d, e, f, f],
-        2 => [a, b, d, e, f, f],
-        3 => [a, b, c, e, f, f],
-        4 => [a, b, c, d, f, f],
-        _ => [a, b, c, d, e, f],
+        0 => [b, c, d, e, f, 0],
+        1 => [a, c, d, e, f, 0],
+        2 => [a, b, d, e, f, 0],
+        3 => [a, b, c, e, f, 0],
+        4 => [a, b, c, d, f, 0],
+        _ => [a, b, c, d, e, 0],
     }
 }
 
