@@ -1,6 +1,7 @@
 pub mod Ranks
 pub mod Slots
 pub mod Words
+pub mod Fours
 pub mod Hops
 pub mod Bits
 pub mod Gains
@@ -11,5 +12,18 @@ pub mod Spreading
 pub mod Nodes
 pub mod Filling
 pub mod Pruning
+pub mod Staying
 pub mod Picking
 pub mod Joining
+pub mod OpeningBits
+pub mod OpeningMarks
+pub mod OpeningSlots
+pub mod OpeningBack
+pub mod OpeningSteps
+pub mod FourSets
+pub mod FourTables
+pub mod EndingFew
+pub mod EndingSets
+pub mod EndingFive
+pub mod EndingSix
+pub mod EndingGaps

@@ -3,4 +3,6 @@ pub mod Ranks
 pub mod Sets
 pub mod Stops
 pub mod Passes
+pub mod Four
 pub mod Masks
+pub mod Opening

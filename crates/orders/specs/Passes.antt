@@ -1,6 +1,6 @@
 -- What the passes over the sets of ranks ensure: which ranks are marked after each, and which positions are picked.
 use mathlib.Core.Path.{_≡_}
-use mathlib.Core.Bool.{true}
+use mathlib.Core.Bool.{true, Bool, false}
 use mathlib.Core.List.{List}
 use mathlib.Core.Logic.{_⊎_}
 use mathlib.Core.Option.{some}
@@ -56,6 +56,11 @@ pub record Least (t : Stop) (s : List ℕ) (g r p x : ℕ) : Type 0 where
   pub low : p < capacity
   pub lands : Lands t s g r p x
   pub first : (q : ℕ) → q < p → Misses t s g r q
+
+-- position p and rank x, by a test
+abbrev pub goes : Bool → (p x : ℕ) → Choice
+goes true p x = Go p x
+goes false p x = Stuck
 
 abbrev pub Chosen : Stop → List ℕ → (g r : ℕ) → Choice → Type 0
 Chosen t s g r (Go p x) = Least t s g r p x

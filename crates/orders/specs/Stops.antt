@@ -2,7 +2,7 @@
 use mathlib.Core.Path.{_≡_}
 use mathlib.Core.List.{List}
 use mathlib.Core.Option.{Option, none, some}
-use Prim.Native.Nat.{ℕ, _+_, _-_, _*_, _<_, _≤_}
+use Prim.Native.Nat.{ℕ, _+_, _-_, _*_, _/_, _%_, _^_, _<_, _≤_}
 use lib.ListN.{getD}
 use Rattle.orders.specs.declared.rank.Stop.{Stop}
 use Rattle.orders.specs.declared.rank.Place.{Place}
@@ -50,3 +50,11 @@ pub record Factorial (n f : ℕ) : Type 0 where
   pub value : f ≡ fact n
   pub pos : 0 < f
   pub most : f ≤ ranks
+
+-- two bits for each order of four nets: where the net with e elders stands
+abbrev pub PlacesOfFour : (e w : ℕ) → Type 0
+PlacesOfFour e w = (i : ℕ) → i < 24 → w / 2 ^ (2 * i) % 4 ≡ atOf (3 - e) 4 i
+
+-- three bits for each order of half h % 2 of them: the rank that is left without the net with h / 2 elders
+abbrev pub RestsOfFour : (h w : ℕ) → Type 0
+RestsOfFour h w = (j : ℕ) → j < 12 → w / 2 ^ (3 * j) % 8 ≡ lessOf (3 - h / 2) 4 (12 * (h % 2) + j)

@@ -1,10 +1,10 @@
 // Ranks of the orders of at most six nets, and one node's transition on them.
 ghost use mathlib.Core.Path.{_≡_};
-ghost use Prim.Native.Nat.{suc, _≤_, _<_};
+ghost use Prim.Native.Nat.{suc, _-_, _≤_, _<_};
 ghost use Rattle.rules.specs.Street.{fits};
-ghost use Rattle.orders.specs.Ranks.{capacity, fact};
+ghost use Rattle.orders.specs.Ranks.{capacity, fact, atOf, lessOf};
 ghost use Rattle.orders.specs.Sets.{ranks};
-ghost use Rattle.orders.specs.Stops.{Located, Beside, Factorial, Sound, hopAt, told};
+ghost use Rattle.orders.specs.Stops.{Located, Beside, Factorial, PlacesOfFour, RestsOfFour, Sound, hopAt, told};
 
 // The most nets that can be open: the tracks of two streets of three. No node has more positions.
 pub const CAPACITY: usize = 6;
@@ -89,7 +89,7 @@ fn meet(stop: Stop, r: usize, p: usize) -> Landing
 }
 
 // Whether a wire with `above` wires over it, of b at the node, keeps the limits.
-fn fit(ku: u8, kl: u8, above: usize, b: usize) -> bool
+pub(crate) fn fit(ku: u8, kl: u8, above: usize, b: usize) -> bool
     ensures { λ t. ⌜ t ≡ fits ku kl (suc above) b ⌝ }
 {
     let upper = ku as usize;
@@ -110,20 +110,101 @@ fn fit(ku: u8, kl: u8, above: usize, b: usize) -> bool
 }
 
 // Where the net of age a stands in the order of rank r of b nets.
-fn locate(a: usize, b: usize, r: usize) -> Place
+pub fn locate(a: usize, b: usize, r: usize) -> Place
     requires { ⌜ (a < b) × (b ≤ capacity) × (r < fact b) ⌝ }
     ensures { λ p. ⌜ Located a b r p ⌝ }
 {
-    let unit = factorial(b - 1);
-    let first = r / unit;
-    let others = r % unit;
+    match b {
+        6 => locate_of_six(a, r),
+        5 => locate_of_five(a, r),
+        _ => locate_of_four(a, b, r),
+    }
+}
+
+fn locate_of_six(a: usize, r: usize) -> Place
+    requires { ⌜ (a < 6) × (r < 720) ⌝ }
+    ensures { λ p. ⌜ Located a 6 r p ⌝ }
+{
+    let first = r / 120;
+    let others = r % 120;
     if a == 0 {
         return Place {
             at: first,
             rest: others,
         };
     }
-    beside(first, b - 1, locate(a - 1, b - 1, others))
+    beside(first, 5, locate_of_five(a - 1, others))
+}
+
+fn locate_of_five(a: usize, r: usize) -> Place
+    requires { ⌜ (a < 5) × (r < 120) ⌝ }
+    ensures { λ p. ⌜ Located a 5 r p ⌝ }
+{
+    let first = r / 24;
+    let others = r % 24;
+    if a == 0 {
+        return Place {
+            at: first,
+            rest: others,
+        };
+    }
+    beside(first, 4, locate_of_four(a - 1, 4, others))
+}
+
+// The same of at most four nets: those that are missing count as the youngest of four, which stand on top, so that ranks and older nets stay as they are.
+fn locate_of_four(a: usize, b: usize, r: usize) -> Place
+    requires { ⌜ (a < b) × (b ≤ 4) × (r < fact b) ⌝ }
+    ensures { λ p. ⌜ Located a b r p ⌝ }
+{
+    let elders = b - 1 - a;
+    let at = place_of_four(elders, r) + b - 4;
+    let rest = rest_of_four(elders, r);
+    Place { at, rest }
+}
+
+// Where the net with so many elders stands in the order of rank i of four nets.
+fn place_of_four(elders: usize, i: usize) -> usize
+    requires { ⌜ (elders < 4) × (i < 24) ⌝ }
+    ensures { λ p. ⌜ (p ≡ atOf (3 - elders) 4 i) × (p < 4) ⌝ }
+{
+    ((places_of_four(elders) >> (2 * i)) % 4) as usize
+}
+
+// Its places in the 24 orders, two bits each.
+fn places_of_four(elders: usize) -> u64
+    requires { ⌜ elders < 4 ⌝ }
+    ensures { λ w. ⌜ PlacesOfFour elders w ⌝ }
+{
+    match elders {
+        0 => 20208746215035,
+        1 => 79803940923870,
+        2 => 181485201657765,
+        _ => 281452064624640,
+    }
+}
+
+// The rank of that order without the net.
+fn rest_of_four(elders: usize, i: usize) -> usize
+    requires { ⌜ (elders < 4) × (i < 24) ⌝ }
+    ensures { λ r. ⌜ (r ≡ lessOf (3 - elders) 4 i) × (r < 8) ⌝ }
+{
+    ((rests_of_four(2 * elders + i / 12) >> (3 * (i % 12))) % 8) as usize
+}
+
+// The ranks that it leaves, of half of the 24 orders each, three bits each.
+fn rests_of_four(half: usize) -> u64
+    requires { ⌜ half < 8 ⌝ }
+    ensures { λ w. ⌜ RestsOfFour half w ⌝ }
+{
+    match half {
+        0 => 11866247232,
+        1 => 48948688212,
+        2 => 27250954752,
+        3 => 49066130082,
+        4 => 28355625480,
+        5 => 47994554010,
+        _ => 47683126920,
+    }
 }
 
 // A net among b older ones and the youngest, which has `first` above it, where `place` is the net's among the older.

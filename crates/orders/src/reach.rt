@@ -1,4 +1,6 @@
 // One node forward: marks in the gap after it every rank that it leads to.
+use crate::end::end;
+use crate::open::open;
 use crate::rank::CAPACITY;
 use crate::rank::Landing;
 use crate::rank::Stop;
@@ -15,26 +17,33 @@ ghost use lib.ListN.{length};
 ghost use Rattle.orders.specs.Ranks.{fact};
 ghost use Rattle.orders.specs.Sets.{stretch, held, source, Empty, Gains, Exactly};
 ghost use Rattle.orders.specs.Stops.{Sound, hopAt};
+ghost use Rattle.orders.specs.Four.{Tables};
 ghost use Rattle.orders.specs.Masks.{Sources};
 ghost use Rattle.orders.specs.Passes.{Leads, Reached};
 
 // Marks in gap g, which is empty, every rank that node g leads to from the ranks before it.
-pub fn spread(work: &mut [u8], g: usize, stop: Stop)
+pub fn spread(work: &mut [u8], g: usize, stop: Stop, tables: &[u32])
     requires { ⌜ Sound stop × (stretch * suc g ≤ length (now work)) ⌝ }
     requires { ⌜ Empty (now work) g ⌝ }
     requires { ⌜ Sources stop (now work) g ⌝ }
+    requires { ⌜ Tables (now tables) ⌝ }
     ensures { λ _. ⌜ Exactly (now (work .entry)) g (Reached stop (now (work .entry)) g) (now (work .exit)) ⌝ }
 {
-    let kind = stop.kind;
     if g == 0 {
         spread_ranks(work, g, stop);
         return;
     }
-    if kind == 1 {
-        touch(work, g, stop);
-        return;
+    let kind = stop.kind;
+    match kind {
+        0 => {
+            open(work, g, stop);
+        }
+        1 => touch(work, g, stop),
+        2 => {
+            end(work, g, stop, tables);
+        }
+        _ => spread_ranks(work, g, stop),
     }
-    spread_ranks(work, g, stop);
 }
 
 // The same, rank by rank.

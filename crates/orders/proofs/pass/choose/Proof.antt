@@ -1,71 +1,39 @@
--- `orders::pass::choose` meets its contract. The loop's invariant: every position passed misses.
-use Prim.Native.Nat.{ℕ, _-_, _<_}
+-- `orders::pass::choose` meets its contract: by the kind. Assumes nothing.
 use native.Mathlib.Omega.{arith}
+use Rattle.orders.proofs.Staying.{nowhere}
 use borrow.Author.Needs.{needs}
-use Rattle.orders.specs.Ranks.{capacity}
-use Rattle.orders.specs.Passes.{Misses}
-use Rattle.orders.proofs.Spreading.{misses-more, misses-all}
 use Rattle.orders.proofs.pass.choose.Statement.{statement}
 use Rattle.orders.proofs.pass.choose.Tie as tie
 
-abbrev Inv-loop : tie.InvT-loop
-Inv-loop work g stop r p₀ p = (q : ℕ) → q < p → Misses stop work g r q
+choose-place-requires : tie.Need-choose-place-requires
+choose-place-requires c κs = search needs
 
-abbrev μ-loop : tie.MeasureT-loop
-μ-loop work g stop r p₀ p = capacity - p
+stay-requires : tie.Need-stay-requires
+stay-requires c κs = search needs
 
-loop-holds : tie.Need-loop-holds Inv-loop μ-loop
-loop-holds c = λ q h. absurd (omega arith)
+stay-requires-2 : tie.Need-stay-requires-2
+stay-requires-2 c κs = search needs
 
-land-requires : tie.Need-land-requires Inv-loop μ-loop
-land-requires c κs = c .before .before .before .pre
+returns : tie.Need-returns
+returns c = search needs
 
-enum-known-x : tie.Need-enum-known-x Inv-loop μ-loop
-enum-known-x c = search needs
+returns-2 : tie.Need-returns-2
+returns-2 c = search needs
 
-returns : tie.Need-returns Inv-loop μ-loop
-returns c =
-    record {
-      low = omega arith;
-      lands = rw (c .before .x .given .1) at (c .before .before .before .land .ensures);
-      first = c .before .before .before .before .before .loop .inv;
-    }
+returns-3 : tie.Need-returns-3
+returns-3 c = search needs
 
-enum-told : tie.Need-enum-told Inv-loop μ-loop
-enum-told c = search needs
-
-add-p : tie.Need-add-p Inv-loop μ-loop
-add-p c = omega arith
-
-loop-less : tie.Need-loop-less Inv-loop μ-loop
-loop-less c = omega arith
-
-loop-again : tie.Need-loop-again Inv-loop μ-loop
-loop-again c =
-    let g = c .before .before .before .before .before .before .args in
-    let l = c .before .before .before .before .loop in
-    misses-more (g .stop) (g .work .now) (g .g) (g .r) (l .p) (l .inv)
-    (rw (c .enum-told .given .1) at (c .before .before .land .ensures))
-
-returns-2 : tie.Need-returns-2 Inv-loop μ-loop
-returns-2 c =
-    let g = c .before .before .before in
-    let l = c .before .loop in
-    misses-all (g .args .stop) (g .args .work .now) (g .args .g) (g .args .r) (l .p) (g .pre .0 .0) (g .pre .1) (c .loop-test .left)
-    (l .inv)
+returns-4 : tie.Need-returns-4
+returns-4 c = λ q x e k. let g = c .before .before .args in nowhere (g .stop) (g .r) q x (omega (arith, c .match .rest)) e
 
 pub choose-spec : {M : Type 1} → statement M
 choose-spec =
     tie.close
     (tie.spec
-    Inv-loop
-    μ-loop
-    loop-holds
-    land-requires
-    enum-known-x
+    choose-place-requires
+    stay-requires
+    stay-requires-2
     returns
-    enum-told
-    add-p
-    loop-less
-    loop-again
-    returns-2)
+    returns-2
+    returns-3
+    returns-4)

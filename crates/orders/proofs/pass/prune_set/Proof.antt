@@ -6,8 +6,25 @@ use borrow.Author.Needs.{needs}
 use Rattle.orders.proofs.pass.prune_set.Statement.{statement}
 use Rattle.orders.proofs.pass.prune_set.Tie as tie
 
+unopen-requires : tie.Need-unopen-requires
+unopen-requires c κs =
+    let g = c .before .before .before .before in (
+      (g .pre .0 .0, c .before .match .keys1, g .pre .0 .1),
+      λ x l m. g .pre .1 .1 .0 x (source-gap (g .args .work .now) (suc (g .args .g)) (g .args .g) x refl ∙ m) .below,
+    )
+
 prune-touched-requires : tie.Need-prune-touched-requires
 prune-touched-requires c κs = search needs
+
+unend-requires : tie.Need-unend-requires
+unend-requires c κs = search needs
+
+prune-ranks-requires : tie.Need-prune-ranks-requires
+prune-ranks-requires c κs =
+    let g = c .before .before .before .before in (
+      g .pre .0,
+      λ x l m. g .pre .1 .1 .0 x (source-gap (g .args .work .now) (suc (g .args .g)) (g .args .g) x refl ∙ m) .below,
+    )
 
 same-length : tie.Need-same-length
 same-length c = search needs
@@ -15,26 +32,37 @@ same-length c = search needs
 returns : tie.Need-returns
 returns c = search needs
 
-prune-ranks-requires : tie.Need-prune-ranks-requires
-prune-ranks-requires c κs =
-    let g = c .before .before .before in (
-      g .pre .0,
-      λ x l m. g .pre .1 .0 x (source-gap (g .args .work .now) (suc (g .args .g)) (g .args .g) x refl ∙ m) .below,
-    )
-
 same-length-2 : tie.Need-same-length-2
 same-length-2 c = search needs
 
 returns-2 : tie.Need-returns-2
 returns-2 c = search needs
 
+same-length-3 : tie.Need-same-length-3
+same-length-3 c = search needs
+
+returns-3 : tie.Need-returns-3
+returns-3 c = search needs
+
+same-length-4 : tie.Need-same-length-4
+same-length-4 c = search needs
+
+returns-4 : tie.Need-returns-4
+returns-4 c = search needs
+
 pub prune-set-spec : {M : Type 1} → statement M
 prune-set-spec =
     tie.close
     (tie.spec
+    unopen-requires
     prune-touched-requires
+    unend-requires
+    prune-ranks-requires
     same-length
     returns
-    prune-ranks-requires
     same-length-2
-    returns-2)
+    returns-2
+    same-length-3
+    returns-3
+    same-length-4
+    returns-4)

@@ -13,10 +13,21 @@ same-length c = search needs
 returns : tie.Need-returns
 returns c = search needs
 
+open-requires : tie.Need-open-requires
+open-requires c κs =
+    let g = c .before .before .before .before .before .pre in
+    ((g .0 .0, c .before .match .keys1, g .0 .1), (g .1 .0, λ x l m. g .1 .1 .0 x m .below))
+
 touch-requires : tie.Need-touch-requires
 touch-requires c κs =
-    let g = c .before .before .before .before .pre in
-    ((g .0 .0, g .0 .1, omega (arith, c .before .before .if1 .left), c .before .if2 .taken), g .1)
+    let g = c .before .before .before .before .before .pre in
+    ((g .0 .0, g .0 .1, omega (arith, c .before .before .if1 .left), c .before .match .keys2), (g .1 .0, g .1 .1 .0))
+
+end-requires : tie.Need-end-requires
+end-requires c κs = search needs
+
+spread-ranks-requires-2 : tie.Need-spread-ranks-requires-2
+spread-ranks-requires-2 c κs = search needs
 
 same-length-2 : tie.Need-same-length-2
 same-length-2 c = search needs
@@ -24,14 +35,23 @@ same-length-2 c = search needs
 returns-2 : tie.Need-returns-2
 returns-2 c = search needs
 
-spread-ranks-requires-2 : tie.Need-spread-ranks-requires-2
-spread-ranks-requires-2 c κs = search needs
-
 same-length-3 : tie.Need-same-length-3
 same-length-3 c = search needs
 
 returns-3 : tie.Need-returns-3
 returns-3 c = search needs
+
+same-length-4 : tie.Need-same-length-4
+same-length-4 c = search needs
+
+returns-4 : tie.Need-returns-4
+returns-4 c = search needs
+
+same-length-5 : tie.Need-same-length-5
+same-length-5 c = search needs
+
+returns-5 : tie.Need-returns-5
+returns-5 c = search needs
 
 pub spread-spec : {M : Type 1} → statement M
 spread-spec =
@@ -40,9 +60,15 @@ spread-spec =
     spread-ranks-requires
     same-length
     returns
+    open-requires
     touch-requires
+    end-requires
+    spread-ranks-requires-2
     same-length-2
     returns-2
-    spread-ranks-requires-2
     same-length-3
-    returns-3)
+    returns-3
+    same-length-4
+    returns-4
+    same-length-5
+    returns-5)
