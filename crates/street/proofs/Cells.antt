@@ -7,15 +7,14 @@ use Prim.Native.Nat.{ℕ, zero, suc, _+_, _-_, _≤_, _<_}
 use native.Mathlib.Nat.{not-suc-le-zero, le-of-suc-le-suc}
 use native.Mathlib.Numerals.{add-one}
 use native.Mathlib.Omega.{arith}
-use lib.Dec.{eqb}
-use lib.ListN.{length, getD, take, drop, length-append}
+use lib.Dec.{eqb, ltb}
+use lib.ListN.{length, getD, take, length-append}
 use lib.Seq.{take-append-le, take-take, length-take-le}
 use Rattle.rules.specs.Basic.{pick, tabulate, put, cut}
 use Rattle.rules.specs.Row.{before}
 use Rattle.rules.proofs.Lists.{length-put, length-cut}
 use Rattle.street.specs.declared.Order.{Order}
 use Rattle.street.specs.Order.{capacity, listed, Sound, Inserted, Found, Removed}
-use Rattle.street.proofs.Orders.{before-at, before-past}
 
 -- ---- the cells, one by one
 
@@ -27,6 +26,20 @@ spelt (x ∷ l) = ap (λ (r : List ℕ). x ∷ r) (spelt l)
 abbrev pub six : List ℕ → List ℕ
 six l = tabulate (λ i. getD l i 0) 6
 
+-- what stands in a cell after a cut: its own before the cut, and from there on what the next one held
+abbrev pub moved : ℕ → List ℕ → ℕ → ℕ
+moved k l i = pick (ltb k (suc i)) (getD l (suc i) 0) (getD l i 0)
+
+six-moved : (l : List ℕ) (k : ℕ) → k < capacity → tabulate (moved k l) 5 ≡ cut k (six l)
+unfolding pick tabulate cut
+six-moved l zero h = refl
+six-moved l (suc zero) h = refl
+six-moved l (suc (suc zero)) h = refl
+six-moved l (suc (suc (suc zero))) h = refl
+six-moved l (suc (suc (suc (suc zero)))) h = refl
+six-moved l (suc (suc (suc (suc (suc zero))))) h = refl
+six-moved l (suc (suc (suc (suc (suc (suc k)))))) h = absurd (omega arith)
+
 module _ (l : List ℕ) (long : length l ≡ capacity) where
   six-cells : six l ≡ l
   six-cells = ap (tabulate (λ i. getD l i 0)) (sym long) ∙ spelt l
@@ -34,8 +47,12 @@ module _ (l : List ℕ) (long : length l ≡ capacity) where
   pub six-put : (k j x : ℕ) → k ≡ j → take capacity (put j x (six l)) ≡ take capacity (put k x l)
   six-put k j x e = ap₂ (λ (i : ℕ) (m : List ℕ). take capacity (put i x m)) (sym e) six-cells
 
-  pub six-cut : (k j : ℕ) → k ≡ j → cut j (six l) ++ (0 ∷ []) ≡ cut k l ++ (0 ∷ [])
-  six-cut k j e = ap₂ (λ (i : ℕ) (m : List ℕ). cut i m ++ (0 ∷ [])) (sym e) six-cells
+  pub six-cut : (k : ℕ) → k < capacity → {a b c d e : ℕ}
+      → a ≡ moved k l 0 → b ≡ moved k l 1 → c ≡ moved k l 2 → d ≡ moved k l 3 → e ≡ moved k l 4
+      → a ∷ b ∷ c ∷ d ∷ e ∷ 0 ∷ [] ≡ cut k l ++ (0 ∷ [])
+  unfolding tabulate
+  six-cut k h p q r s t =
+      (λ i. p i ∷ q i ∷ r i ∷ s i ∷ t i ∷ 0 ∷ []) ∙ ap (λ (m : List ℕ). m ++ (0 ∷ [])) (six-moved l k h ∙ ap (cut k) six-cells)
 
 -- ---- the first of them
 
@@ -99,13 +116,30 @@ before-taken x (suc n) (y ∷ l) = go (eqb y x) (before-taken x n l)
     go true e = omega arith
     go false e = omega arith
 
-module _ (o : Order) (s : Sound o) (x : ℕ) where
-  -- where the first cell with x is cell i, x stands behind i others, or nowhere
-  pub found : (i r : ℕ) → before x (o .nets) ≡ i → r ≡ i - (i - o .count) → Found o x r
-  found i r e q = record { place = omega (arith, before-taken x (o .count) (o .nets)); within = omega arith }
+-- the first of six tests that passes, where one does
+first-of : (a b c d e f : Bool) (n : ℕ) → n ≡ pick a 0 (suc (pick b 0 (suc (pick c 0 (suc (pick d 0 (suc (pick e 0 (suc (pick f 0 1)))))))))) → n < capacity
+    → pick a 0 (pick b 1 (pick c 2 (pick d 3 (pick e 4 5)))) ≡ n
+unfolding pick
+first-of true b c d e f n p h = sym p
+first-of false true c d e f n p h = sym p
+first-of false false true d e f n p h = sym p
+first-of false false false true e f n p h = sym p
+first-of false false false false true f n p h = sym p
+first-of false false false false false true n p h = sym p
+first-of false false false false false false n p h = absurd (omega arith)
 
-  pub past : (i : ℕ) → i < capacity → (getD (o .nets) i 0 ≡ x → ⊥) → before x (drop i (o .nets)) ≡ suc (before x (drop (suc i) (o .nets)))
-  past i h n = before-past x i (o .nets) (omega (arith, s .cells)) n
+module _ (o : Order) (sound : Sound o) (x : ℕ) (there : before x (listed o) < o .count) where
+  abbrev holds : ℕ → Bool
+  holds i = eqb (getD (o .nets) i 0) x
 
-  pub here : (i : ℕ) → i < capacity → getD (o .nets) i 0 ≡ x → before x (drop i (o .nets)) ≡ 0
-  here i h e = before-at x i (o .nets) (omega (arith, s .cells)) e
+  -- an open label stands where its first cell is
+  pub found : {p q r s t : ℕ}
+      → p ≡ pick (holds 4) 4 5 → q ≡ pick (holds 3) 3 p → r ≡ pick (holds 2) 2 q → s ≡ pick (holds 1) 1 r → t ≡ pick (holds 0) 0 s
+      → Found o x t
+  unfolding before tabulate
+  found {t = t} h₄ h₃ h₂ h₁ h₀ =
+      let asked : t ≡ pick (holds 0) 0 (pick (holds 1) 1 (pick (holds 2) 2 (pick (holds 3) 3 (pick (holds 4) 4 5)))) = cc in
+      let taken = before-taken x (o .count) (o .nets) in
+      let cells = ap (before x) (six-cells (o .nets) (sound .cells)) in
+      let first = first-of (holds 0) (holds 1) (holds 2) (holds 3) (holds 4) (holds 5) (before x (o .nets)) (sym cells) (omega (arith, sound .few)) in
+      record { place = omega arith; within = omega arith }

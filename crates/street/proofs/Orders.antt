@@ -1,15 +1,12 @@
--- Loops that put a thing into the first places of an array, cut one out, and look for one.
+-- Loops that put a thing into the first places of an array and cut one out, and the length of an order's list.
 use mathlib.Core.Path.{_≡_, refl, ap}
 use mathlib.Core.List.{List, [], _∷_}
-use Prim.Native.Nat.{ℕ, zero, suc, _≤_, _<_, zero-le}
+use Prim.Native.Nat.{ℕ, zero, suc, _≤_, _<_}
 use native.Mathlib.Nat.{not-suc-le-zero, le-of-suc-le-suc}
-use native.Mathlib.Decide.{ℕ-discrete}
 use native.Mathlib.Omega.{arith}
-use borrow.Author.Tests.{eq-eqb, ne-eqb}
-use lib.ListN.{length, getD, take, drop, set}
-use lib.Seq.{drop-cons, length-take-le}
-use Rattle.rules.specs.Basic.{pick, put, cut}
-use Rattle.rules.specs.Row.{before}
+use lib.ListN.{length, getD, take, set}
+use lib.Seq.{length-take-le}
+use Rattle.rules.specs.Basic.{put, cut}
 use Rattle.street.specs.declared.Order.{Order}
 use Rattle.street.specs.Order.{listed, Sound}
 
@@ -50,29 +47,6 @@ module _ {ℓ} {A : Type ℓ} where
   cut-last (suc n) [] = refl
   cut-last zero (y ∷ l) = refl
   cut-last (suc n) (y ∷ l) = ap (λ (r : List A). y ∷ r) (cut-last n l)
-
--- where x stands first
-
-pub before-here : (x y : ℕ) (l : List ℕ) → y ≡ x → before x (y ∷ l) ≡ 0
-unfolding before pick
-before-here x y l e = rw (eq-eqb y x e)
-
-pub before-there : (x y : ℕ) (l : List ℕ) → (y ≡ x → ⊥) → before x (y ∷ l) ≡ suc (before x l)
-unfolding before pick
-before-there x y l n = rw (ne-eqb y x n)
-
-pub before-none : (x : ℕ) → before x [] ≡ 0
-unfolding before
-before-none x = refl
-
--- x stands at i: nothing of what is left from there on stands before it
-pub before-at : (x i : ℕ) (l : List ℕ) → i < length l → getD l i 0 ≡ x → before x (drop i l) ≡ 0
-before-at x i l h e = rw (drop-cons l i 0 h) (before-here x (getD l i 0) (drop (suc i) l) e)
-
--- x does not stand at i: of what is left from there on, one more stands before it
-pub before-past : (x i : ℕ) (l : List ℕ) → i < length l → (getD l i 0 ≡ x → ⊥)
-    → before x (drop i l) ≡ suc (before x (drop (suc i) l))
-before-past x i l h n = rw (drop-cons l i 0 h) (before-there x (getD l i 0) (drop (suc i) l) n)
 
 -- the list of an order is as long as the order counts
 pub length-listed : (o : Order) → Sound o → length (listed o) ≡ o .count

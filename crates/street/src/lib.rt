@@ -2,9 +2,10 @@
 use rules::Limits;
 ghost use mathlib.Core.Path.{_≡_};
 ghost use mathlib.Core.List.{[], _∷_, _++_};
-ghost use Prim.Native.Nat.{suc, _-_, _≤_, _<_};
+ghost use Prim.Native.Nat.{suc, _≤_, _<_};
 ghost use lib.ListN.{length, getD, take};
-ghost use Rattle.rules.specs.Basic.{put, cut};
+ghost use Rattle.rules.specs.Basic.{pick, put, cut};
+ghost use Rattle.rules.specs.Row.{before};
 ghost use Rattle.rules.specs.Street.{limits};
 ghost use Rattle.street.specs.Order.{capacity, listed, Sound, Emptied, Inserted, Found, Removed};
 
@@ -39,32 +40,16 @@ impl Order {
         Order { nets, count }
     }
 
-    // How many labels stand before the first x: the count, where x is not open.
+    // How many labels stand before the first x, which is open: it is in the last cell, where it is in none before.
+    // All tests are made, whichever passes, so that none needs a branch.
     pub fn find(self, x: u8) -> usize
-        requires { ⌜ Sound self ⌝ }
+        requires { ⌜ Sound self × (before x (listed self) < self .count) ⌝ }
         ensures { λ r. ⌜ Found self x r ⌝ }
     {
         let nets = self.nets;
-        let count = self.count;
-        if nets[0] == x {
-            return 0;
-        }
-        if nets[1] == x {
-            return capped(1, count);
-        }
-        if nets[2] == x {
-            return capped(2, count);
-        }
-        if nets[3] == x {
-            return capped(3, count);
-        }
-        if nets[4] == x {
-            return capped(4, count);
-        }
-        if nets[5] == x {
-            return capped(5, count);
-        }
-        count
+        let fifth = nearer(nets[4] == x, 4, 5);
+        let third = nearer(nets[2] == x, 2, nearer(nets[3] == x, 3, fifth));
+        nearer(nets[0] == x, 0, nearer(nets[1] == x, 1, third))
     }
 
     // The order without the label behind k others.
@@ -119,24 +104,34 @@ fn without(nets: [u8; CAPACITY], k: usize) -> [u8; CAPACITY]
     let d = nets[3];
     let e = nets[4];
     let f = nets[5];
-    match k {
-        0 => [b, c, d, e, f, 0],
-        1 => [a, c, d, e, f, 0],
-        2 => [a, b, d, e, f, 0],
-        3 => [a, b, c, e, f, 0],
-        4 => [a, b, c, d, f, 0],
-        _ => [a, b, c, d, e, 0],
-    }
+    [
+        kept(k < 1, a, b),
+        kept(k < 2, b, c),
+        kept(k < 3, c, d),
+        kept(k < 4, d, e),
+        kept(k < 5, e, f),
+        0,
+    ]
 }
 
-// The lesser of a cell's number and the count.
-fn capped(i: usize, count: usize) -> usize
-    ensures { λ r. ⌜ r ≡ i - (i - count) ⌝ }
+// Place i, where the label is there, and else the later place p.
+fn nearer(here: bool, i: usize, p: usize) -> usize
+    ensures { λ r. ⌜ r ≡ pick here i p ⌝ }
 {
-    if i < count {
+    if here {
         return i;
     }
-    count
+    p
+}
+
+// What a cell holds after a cut: x as before, or y of the next cell, where x or one before it is gone.
+fn kept(gone: bool, x: u8, y: u8) -> u8
+    ensures { λ r. ⌜ r ≡ pick gone y x ⌝ }
+{
+    if gone {
+        return y;
+    }
+    x
 }
 
 // Which of the three limits a wire with `above` wires over it, of b at the node, breaks.

@@ -1,8 +1,6 @@
--- `street::without` meets its contract: each arm's cells are those of the definition, by `six-cut`. Assumes nothing.
-use native.Mathlib.Omega.{arith}
-use Rattle.rules.specs.Basic.{tabulate, cut}
-use Rattle.street.proofs.Cells.{six-cut}
+-- `street::without` meets its contract: the cells that are kept are those of the definition, by `six-cut`. Assumes nothing.
 use borrow.Author.Needs.{needs}
+use Rattle.street.proofs.Cells.{six-cut}
 use Rattle.street.proofs.without.Statement.{statement}
 use Rattle.street.proofs.without.Tie as tie
 
@@ -24,29 +22,30 @@ array-read-e c = search needs
 array-read-f : tie.Need-array-read-f
 array-read-f c = search needs
 
+kept-requires : tie.Need-kept-requires
+kept-requires c κs = search needs
+
+kept-requires-2 : tie.Need-kept-requires-2
+kept-requires-2 c κs = search needs
+
+kept-requires-3 : tie.Need-kept-requires-3
+kept-requires-3 c κs = search needs
+
+kept-requires-4 : tie.Need-kept-requires-4
+kept-requires-4 c κs = search needs
+
+kept-requires-5 : tie.Need-kept-requires-5
+kept-requires-5 c κs = search needs
+
 returns : tie.Need-returns
-unfolding cut tabulate
-returns c = let g = c .before .args in six-cut (g .t1) (c .before .pre .0) (g .k) 0 (c .match .keys1)
-
-returns-2 : tie.Need-returns-2
-unfolding cut tabulate
-returns-2 c = let g = c .before .args in six-cut (g .t1) (c .before .pre .0) (g .k) 1 (c .match .keys2)
-
-returns-3 : tie.Need-returns-3
-unfolding cut tabulate
-returns-3 c = let g = c .before .args in six-cut (g .t1) (c .before .pre .0) (g .k) 2 (c .match .keys3)
-
-returns-4 : tie.Need-returns-4
-unfolding cut tabulate
-returns-4 c = let g = c .before .args in six-cut (g .t1) (c .before .pre .0) (g .k) 3 (c .match .keys4)
-
-returns-5 : tie.Need-returns-5
-unfolding cut tabulate
-returns-5 c = let g = c .before .args in six-cut (g .t1) (c .before .pre .0) (g .k) 4 (c .match .keys5)
-
-returns-6 : tie.Need-returns-6
-unfolding cut tabulate
-returns-6 c = let g = c .before .args in six-cut (g .t1) (c .before .pre .0) (g .k) 5 (omega (arith, c .match .rest, c .before .pre .1))
+returns c =
+    let fourth = c .before in
+    let third = fourth .before in
+    let second = third .before in
+    let first = second .before in
+    let s = first .before in
+    six-cut (s .args .t1) (s .pre .0) (s .args .k) (s .pre .1) (first .kept .ensures) (second .kept2 .ensures) (third .kept3 .ensures)
+    (fourth .kept4 .ensures) (c .kept5 .ensures)
 
 pub without-spec : {M : Type 1} → statement M
 without-spec =
@@ -58,9 +57,9 @@ without-spec =
     array-read-d
     array-read-e
     array-read-f
-    returns
-    returns-2
-    returns-3
-    returns-4
-    returns-5
-    returns-6)
+    kept-requires
+    kept-requires-2
+    kept-requires-3
+    kept-requires-4
+    kept-requires-5
+    returns)

@@ -20,13 +20,19 @@ insert-requires c κs =
     (w .sound, o .0, o .1)
 
 find-requires : tie.Need-find-requires
-find-requires c κs = search needs
+find-requires c κs =
+    let w = c .before .pre in
+    let s = w .stands (omega (arith, c .match .keys2)) in
+    (w .sound, omega (arith, s .0, s .1))
 
 cast-t11 : tie.Need-cast-t11
 cast-t11 c = search needs
 
 find-requires-2 : tie.Need-find-requires-2
-find-requires-2 c κs = search needs
+find-requires-2 c κs =
+    let w = c .before .pre in
+    let s = w .stands (omega (arith, c .match .rest)) in
+    (w .sound, omega (arith, s .0, s .1))
 
 remove-requires : tie.Need-remove-requires
 remove-requires c κs =

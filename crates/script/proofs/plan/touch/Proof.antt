@@ -14,13 +14,13 @@ insert-requires : tie.Need-insert-requires
 insert-requires c κs = (c .before .pre .sound, c .before .pre .room (c .match .keys1), omega arith)
 
 find-requires : tie.Need-find-requires
-find-requires c κs = search needs
+find-requires c κs = let w = c .before .pre in (w .sound, w .there (λ e. omega (arith, c .match .keys2)))
 
 cast-t9 : tie.Need-cast-t9
 cast-t9 c = search needs
 
 find-requires-2 : tie.Need-find-requires-2
-find-requires-2 c κs = search needs
+find-requires-2 c κs = let w = c .before .pre in (w .sound, w .there (λ e. omega (arith, c .match .rest)))
 
 remove-requires : tie.Need-remove-requires
 remove-requires c κs =
