@@ -1,5 +1,5 @@
 -- A mark that is turned over changes no other, and each rank that a set can hold has a bit of its own.
-use mathlib.Core.Path.{_≡_, refl, sym, ap, ap₂, _∙_}
+use mathlib.Core.Path.{_≡_, refl, sym, ap, _∙_}
 use mathlib.Core.Bool.{Bool, true, false, not}
 use mathlib.Core.List.{List}
 use Prim.Native.Nat.{ℕ, zero, suc, _+_, _*_, _/_, _%_, _^_, _≤_, _<_}
@@ -11,9 +11,9 @@ use lib.Bits.{bitXor}
 use lib.Pow.{shl-exact}
 use lib.Dec.{eqb, ltb}
 use borrow.Author.Tests.{ltb-true, ltb-false, eqb-true, eqb-false}
-use Rattle.orders.specs.Sets.{ranks, stretch, slots, held, slot, fourAt, wordAt, bit, marked, source, Written, Set, Some}
-use Rattle.orders.proofs.Slots.{held-few, held-below, slot-below, slot-one, rank-in}
-use Rattle.orders.proofs.Words.{bit-turned, bit-unturned, bit-zero, bit-mod, bit-some}
+use Rattle.orders.specs.Sets.{stretch, held, slot, fourAt, wordAt, bit, marked, source, Written, Set}
+use Rattle.orders.proofs.Slots.{held-few, slot-below, slot-one}
+use Rattle.orders.proofs.Words.{bit-turned, bit-unturned, bit-zero}
 
 pub not-both : {t : Bool} → t ≡ false → t ≡ true → ⊥
 not-both f e = let z : _≡_ {A = ℕ} 0 1 = cc in omega arith
@@ -112,23 +112,6 @@ clear-word s z g k =
 pub clear-empty : (s : List ℕ) → ((i : ℕ) → getD s i 0 ≡ 0) → (g x : ℕ) → marked s g x ≡ true → ⊥
 clear-empty s z g x e =
     not-both (marked-bit s g x (marked-held s g x e) ∙ ap (λ (v : ℕ). bit v (x % 24)) (clear-word s z g (slot x)) ∙ bit-zero (x % 24)) e
-
--- a word of a gap has a mark of its own where it is not 0
-pub word-some : (s : List ℕ) (g k : ℕ) → k < slots → 0 < wordAt s g k % 16777216 → Some s g
-word-some s g k h l =
-    let (i, m, e) = bit-some 24 (wordAt s g k % 16777216) (omega arith) l in
-    let r = rank-in k i h m in
-    record {
-      rank = r .0;
-      within = omega (arith, held-below (r .0) (r .1));
-      is = marked-bit s g (r .0) (r .1) ∙ ap₂ (λ (j n : ℕ). bit (wordAt s g j) n) (r .2) (r .3) ∙ sym (bit-mod (wordAt s g k) 24 i m) ∙ e;
-    }
-
-pub word-none : (s : List ℕ) (g k x : ℕ) → wordAt s g k % 16777216 ≡ 0 → slot x ≡ k → marked s g x ≡ true → ⊥
-word-none s g k x z e m =
-    not-both
-    (marked-bit s g x (marked-held s g x m) ∙ ap (λ (j : ℕ). bit (wordAt s g j) (x % 24)) e ∙ sym (bit-mod (wordAt s g k) 24 (x % 24) (omega arith)) ∙
-    ap (λ (d : ℕ). bit d (x % 24)) z ∙ bit-zero (x % 24)) m
 
 -- the first i bytes are 0, and one more is cleared
 pub clear-more : (s : List ℕ) (i : ℕ) → i < length s → ((j : ℕ) → j < i → getD s j 0 ≡ 0) → (j : ℕ) → j < i + 1 →

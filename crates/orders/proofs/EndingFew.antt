@@ -8,7 +8,7 @@ use lib.Bits.{bitAnd}
 use lib.Pow.{shl-exact, shl-lt}
 use Rattle.orders.specs.Ranks.{fact, atOf, lessOf}
 use Rattle.orders.specs.Sets.{bit}
-use Rattle.orders.specs.Four.{placeOf, leftOf, Left, Pulls, Leaves, Gone, comes}
+use Rattle.orders.specs.Four.{placeOf, leftOf, Left, Pulls, Mask, Leaves, Gone, comes}
 use Rattle.orders.proofs.Ranks.{fact-most, under-above, spared-above}
 use Rattle.orders.proofs.Words.{bit-and, bit-shl, bit-mod}
 use Rattle.orders.proofs.FourSets.{and-both, and-true, left-lt}
@@ -63,11 +63,13 @@ module _ (b a : ℕ) (ha : a < b) (hb : b ≤ 4) where
         let h : l * 2 ^ (4 - b) < 2 ^ 4 = rw e at (shl-lt b (4 - b) hl) in
         rw shifted h
 
-    pub few-stands : (z : ℕ) → Pulls (placeOf (b - 1 - a)) (l * 2 ^ (4 - b) % 4294967296) z → (r : ℕ) → r < fact b →
-        bit z r ≡ bit l (atOf a b r)
-    few-stands z p r h =
-        p .bits r (omega (arith, fact-four b hb)) ∙
-        ap₂ (λ (v i : ℕ). bit v i) shifted (place-few r h) ∙ bit-shl l (4 - b) (atOf a b r)
+    pub few-stands : (z : ℕ) → Pulls (placeOf (b - 1 - a)) (l * 2 ^ (4 - b) % 4294967296) z → Mask (fact b) (λ r. bit l (atOf a b r)) z
+    few-stands z p =
+        record {
+          below = p .below;
+          bits = λ r h. p .bits r (omega (arith, fact-four b hb)) ∙
+              ap₂ (λ (v i : ℕ). bit v i) shifted (place-few r h) ∙ bit-shl l (4 - b) (atOf a b r);
+        }
 
     module _ (z : ℕ) (stands : (r : ℕ) → r < fact b → bit z r ≡ bit l (atOf a b r)) where
       pub few-gone : (w n : ℕ) → ((r : ℕ) → r < 24 → bit w r ≡ true → r < fact b) → Left (b - 1 - a) (bitAnd w z) n →

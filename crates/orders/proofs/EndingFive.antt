@@ -3,9 +3,9 @@ use mathlib.Core.Path.{_≡_, refl, sym, ap, ap₂, _∙_}
 use mathlib.Core.Bool.{Bool, true, false, _&&_, _||_}
 use mathlib.Core.Logic.{_⊎_, inl, inr}
 use Prim.Native.Nat.{ℕ, zero, suc, _+_, _-_, _*_, _/_, _%_, _^_, _≤_, _<_}
-use native.Mathlib.Nat.{mod-lt}
+use native.Mathlib.Nat.{mod-lt, one-mul}
 use native.Mathlib.Omega.{arith}
-use lib.Bits.{bitAnd, bitOr}
+use lib.Bits.{bitAnd, bitOr, or-lt}
 use lib.Dec.{leb, ltb}
 use lib.Pow.{shl-exact, shl-lt, shr-lt, pow-pos, pow-mono}
 use borrow.Author.Tests.{leb-true, leb-false, ltb-true, ltb-false, le-leb, lt-leb, eq-eqb, ne-eqb}
@@ -74,7 +74,7 @@ module _ (l k w : ℕ) where
   taken-out h i = bit-zero i ∙ sym (ap (λ (t : Bool). t && bit w i) (not-in h))
 
 -- the youngest of five, and another
-at-first : (r : ℕ) → atOf 0 5 r ≡ r / 24
+pub at-first : (r : ℕ) → atOf 0 5 r ≡ r / 24
 unfolding fact
 at-first r = sym (at-youngest 0 5 4 r 24 refl refl refl)
 
@@ -137,8 +137,12 @@ module _ (l : ℕ) (f : Five) where
   youngest-back n h r m =
       h (r / 24) (r % 24) (omega arith) ∙ sym (ap₂ (λ (k i : ℕ). bit l k && bit n i) (at-first r) (less-first r))
 
+or-false : (t : Bool) → t || false ≡ t
+or-false true = refl
+or-false false = refl
+
 -- the sets of places
-module _ (l d : ℕ) (hl : l < 32) (hd : d < 4) where
+module _ (l d : ℕ) (hl : l < 32) (hd : d < 5) where
   abbrev high : ℕ
   high = l / 2 ^ (d + 1)
 
@@ -167,6 +171,44 @@ module _ (l d : ℕ) (hl : l < 32) (hd : d < 4) where
           ap (bit (high * 2 ^ d)) e ∙ bit-shl high d (p - d) ∙ bit-shr l (d + 1) (p - d) ∙ ap (bit l) v
       go false q = bit-shl-low high d p (leb-false d p q)
 
+  pub over-passing : (e z : ℕ) → Pulls (placeOf e) (high * 2 ^ d % 4294967296) z → Passing (overAt e l d) z
+  over-passing e z p = record { bits = λ i h. p .bits i h ∙ over-bit (placeOf e i) }
+
+  -- the places from which the youngest, put in at d, pushes a net to a place of l
+  bound : 1 * 2 ^ d % 4294967296 ≡ 2 ^ d
+  bound = shl-exact 1 d 32 (omega arith) (omega arith) ∙ one-mul (2 ^ d)
+
+  pub bound-pos : 0 < 1 * 2 ^ d % 4294967296
+  bound-pos = rw bound (pow-pos d)
+
+  abbrev upper : ℕ
+  upper = l % (1 * 2 ^ d % 4294967296)
+
+  upper-exact : upper ≡ l % 2 ^ d
+  upper-exact = ap (λ (m : ℕ). l % m) bound
+
+  abbrev pub pushed : ℕ
+  pushed = bitOr upper (high * 2 ^ d % 4294967296)
+
+  pub pushed-lt : pushed < 16
+  pushed-lt =
+      let h : l % 2 ^ d < 2 ^ d = mod-lt l (pow-pos d) in
+      let m : 2 ^ d ≤ 2 ^ 4 = pow-mono {i = d} {j = 4} (omega arith) in
+      or-lt 4 upper (high * 2 ^ d % 4294967296) (rw upper-exact (omega arith)) over-lt
+
+  pub pushed-bit : (p : ℕ) → bit pushed p ≡ bit l (under d p)
+  pushed-bit p =
+      bit-or upper (high * 2 ^ d % 4294967296) p ∙ ap₂ _||_ (ap (λ (v : ℕ). bit v p) upper-exact) (over-bit p) ∙ go (leb d p) refl
+    where
+      go : (t : Bool) → leb d p ≡ t → bit (l % 2 ^ d) p || (t && bit l (suc p)) ≡ bit l (under d p)
+      go true q =
+          let m = leb-true d p q in
+          rw (bit-high (l % 2 ^ d) d p (mod-lt l (pow-pos d)) m, under-above d p m)
+      go false q =
+          let m = leb-false d p q in
+          or-false (bit (l % 2 ^ d) p) ∙ bit-mod l d p m ∙ ap (bit l) (sym (under-below d p m))
+
+module _ (l d : ℕ) (hl : l < 32) (hd : d < 4) where
   modulus : 2 * 2 ^ d % 4294967296 ≡ 2 ^ suc d
   modulus = shl-exact 2 d 32 (omega arith) (omega arith) ∙ omega arith
 
@@ -188,9 +230,6 @@ module _ (l d : ℕ) (hl : l < 32) (hd : d < 4) where
       go : (t : Bool) → leb p d ≡ t → bit (l % 2 ^ suc d) p ≡ t && bit l p
       go true q = bit-mod l (suc d) p (omega (arith, leb-true p d q))
       go false q = bit-high (l % 2 ^ suc d) (suc d) p (mod-lt l (pow-pos (suc d))) (leb-false p d q)
-
-  pub over-passing : (e z : ℕ) → Pulls (placeOf e) (high * 2 ^ d % 4294967296) z → Passing (overAt e l d) z
-  over-passing e z p = record { bits = λ i h. p .bits i h ∙ over-bit (placeOf e i) }
 
   pub under-passing : (e z : ℕ) → Pulls (placeOf e) (l % (2 * 2 ^ d % 4294967296)) z → Passing (underAt e l d) z
   under-passing e z p = record { bits = λ i h. p .bits i h ∙ under-bit (placeOf e i) }
@@ -239,7 +278,7 @@ module _ (e l : ℕ) (he : e < 4) where
     abbrev place : ℕ
     place = placeOf e i
 
-    rank-at : atOf (4 - e) 5 rank ≡ under k place
+    pub rank-at : atOf (4 - e) 5 rank ≡ under k place
     rank-at =
         let dk : rank / 24 ≡ k = omega arith in
         let di : rank % 24 ≡ i = omega arith in

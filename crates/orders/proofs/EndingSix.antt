@@ -30,11 +30,11 @@ use Rattle.orders.proofs.EndingSets.{word-source, ends-made}
 
 -- the two places in the middle
 module _ (ku kl : ℕ) (hu : ku ≤ 3) (hl : kl ≤ 3) (p : ℕ) where
-  fits-middle : 6 ≤ ku + kl → 2 ≤ p → p ≤ 3 → fits ku kl (suc p) 6 ≡ true
+  pub fits-middle : 6 ≤ ku + kl → 2 ≤ p → p ≤ 3 → fits ku kl (suc p) 6 ≡ true
   fits-middle h a b =
       fitting ku kl (suc p) 6 (record { low = omega arith; high = omega arith; upper = omega arith; lower = omega arith; sum = h })
 
-  middle-fits : fits ku kl (suc p) 6 ≡ true → (2 ≤ p) × (p ≤ 3) × (6 ≤ ku + kl)
+  pub middle-fits : fits ku kl (suc p) 6 ≡ true → (2 ≤ p) × (p ≤ 3) × (6 ≤ ku + kl)
   middle-fits e =
       let f : Fits ku kl (suc p) 6 = fits-fits ku kl (suc p) 6 e in
       (omega arith, omega arith, omega arith)
@@ -50,7 +50,7 @@ module _ (q x : ℕ) (hx : x < 120) where
   rest : rank % 120 ≡ x
   rest = omega arith
 
-  at-first : atOf 0 6 rank ≡ q
+  pub at-first : atOf 0 6 rank ≡ q
   unfolding fact
   at-first = sym (at-youngest 0 6 5 rank 120 refl refl refl) ∙ quot
 
@@ -58,7 +58,7 @@ module _ (q x : ℕ) (hx : x < 120) where
   unfolding fact
   less-first = sym (less-youngest 0 6 5 rank 120 refl refl refl) ∙ rest
 
-  at-other : (c : ℕ) → atOf (suc c) 6 rank ≡ under q (atOf c 5 x)
+  pub at-other : (c : ℕ) → atOf (suc c) 6 rank ≡ under q (atOf c 5 x)
   unfolding fact
   at-other c =
       sym (at-older (suc c) 6 c 5 rank 120 (atOf c 5 (rank % 120)) refl refl refl refl) ∙
@@ -72,14 +72,14 @@ module _ (q x : ℕ) (hx : x < 120) where
 
 -- with the youngest in the middle another net stands there exactly if it is third of the five, and the youngest is then left as third
 module _ (q : ℕ) (h₂ : 2 ≤ q) (h₄ : q < 4) where
-  third : (p : ℕ) → 2 ≤ under q p → under q p ≤ 3 → p ≡ 2
+  pub third : (p : ℕ) → 2 ≤ under q p → under q p ≤ 3 → p ≡ 2
   third p a b = go (leb q p) refl
     where
       go : (t : Bool) → leb q p ≡ t → p ≡ 2
       go true e = omega (arith, under-above q p (leb-true q p e), leb-true q p e)
       go false e = omega (arith, under-below q p (leb-false q p e), leb-false q p e)
 
-  third-under : (2 ≤ under q 2) × (under q 2 ≤ 3)
+  pub third-under : (2 ≤ under q 2) × (under q 2 ≤ 3)
   third-under = go (leb q 2) refl
     where
       go : (t : Bool) → leb q 2 ≡ t → (2 ≤ under q 2) × (under q 2 ≤ 3)
@@ -94,14 +94,14 @@ module _ (q : ℕ) (h₂ : 2 ≤ q) (h₄ : q < 4) where
       go false e = omega (arith, spared-below q 2 (leb-false q 2 e), leb-false q 2 e)
 
 -- the set of place 2 alone
-only-third : (p : ℕ) → bit 4 p ≡ true → p ≡ 2
+pub only-third : (p : ℕ) → bit 4 p ≡ true → p ≡ 2
 only-third p e = go (eqb p 2) refl
   where
     go : (t : Bool) → eqb p 2 ≡ t → p ≡ 2
     go true q = eqb-true p 2 q
     go false q = absurd (not-both (bit-power-other 2 p (eqb-false p 2 q)) e)
 
-third-only : (p : ℕ) → p ≡ 2 → bit 4 p ≡ true
+pub third-only : (p : ℕ) → p ≡ 2 → bit 4 p ≡ true
 third-only p e = rw e (bit-power 2)
 
 -- a stop with six nets open at which one ends

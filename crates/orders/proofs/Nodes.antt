@@ -1,7 +1,8 @@
 -- The stops that the passes make of the three lists are sound, and ways go on through them.
-use mathlib.Core.Path.{_≡_}
+use mathlib.Core.Path.{_≡_, refl, ap, _∙_}
 use mathlib.Core.List.{List, _∷_}
-use Prim.Native.Nat.{ℕ, suc, _<_}
+use Prim.Native.Nat.{ℕ, zero, suc, _<_}
+use native.Mathlib.Omega.{arith}
 use lib.ListN.{length, getD, take, drop}
 use lib.Seq.{drop-cons}
 use Rattle.orders.specs.Plan.{Step, step, steps}
@@ -9,7 +10,7 @@ use Rattle.orders.specs.Ranks.{RankOf, Way, Ahead}
 use Rattle.orders.specs.Sets.{ranks}
 use Rattle.orders.specs.Stops.{stepOf, stopOf, Sound}
 use Rattle.orders.specs.Passes.{Leads, Given, Passable}
-use Rattle.orders.proofs.Ways.{Hopped, way-more, way-less, ahead-more, ahead-less, way-ready, way-below, passes-take, steps-length, steps-at}
+use Rattle.orders.proofs.Ways.{Hopped, first-begins, way-more, way-less, ahead-more, ahead-less, way-ready, way-below, passes-take, steps-length, steps-at}
 
 module _ (ks xs cs : List ℕ) (ku kl : ℕ) where
   abbrev ss : List Step
@@ -57,6 +58,16 @@ module _ (ks xs cs : List ℕ) (ku kl : ℕ) where
     stop-ready w x g v =
         let r = way-ready ku kl (g .upper) (g .lower) i ss none (getD ks i 0) (getD xs i 0) (getD cs i 0) x (g .plan) inside told v in
         (record { few = r .few; touched = r .touched; upper = g .upper; lower = g .lower }, r .rank)
+
+    -- a node that is no B is not the first
+    pub stop-behind : (w : List ℕ) → Given ks xs cs w ku kl → 0 < getD ks i 0 → 0 < i
+    stop-behind w g h = go i inside told h
+      where
+        go : (i : ℕ) → i < length ss → getD ss i none ≡ stepOf (stopOf ks xs cs ku kl i) → 0 < getD ks i 0 → 0 < i
+        go zero m e h =
+            absurd (first-begins (getD ks 0 0) (getD xs 0 0) (getD cs 0 0) (drop 1 ss)
+            (drop-cons ss 0 none m ∙ ap (λ s. s ∷ drop 1 ss) e) (g .plan) refl h)
+        go (suc i) m e h = omega arith
 
   pub stop-sound : (i : ℕ) (w : List ℕ) → i < length ks → Given ks xs cs w ku kl → Passable ku kl ss → Sound (stopOf ks xs cs ku kl i)
   stop-sound i w l g p =

@@ -56,10 +56,6 @@ pub fact-of-four : fact 4 ≡ 24
 unfolding fact
 fact-of-four = refl
 
-pub fact-of-six : fact 6 ≡ 720
-unfolding fact
-fact-of-six = refl
-
 pub fact-of-five : fact 5 ≡ 120
 unfolding fact
 fact-of-five = refl

@@ -2,10 +2,10 @@
 use mathlib.Core.Path.{_≡_, refl, _∙_}
 use mathlib.Core.Bool.{Bool, true, false, _&&_, _||_}
 use mathlib.Core.Logic.{_⊎_, inl, inr, ⊎-elim}
-use Prim.Native.Nat.{ℕ, _+_, _*_, _-_, _/_, _%_, _≤_, _<_}
+use Prim.Native.Nat.{ℕ, _-_, _/_, _%_, _≤_, _<_}
 use native.Mathlib.Omega.{arith}
 use lib.Dec.{leb, ltb}
-use borrow.Author.Tests.{ltb-true, ltb-false, leb-true, lt-ltb, le-ltb, le-leb, lt-leb}
+use borrow.Author.Tests.{ltb-true, leb-true, lt-ltb, le-ltb, le-leb, lt-leb}
 use Rattle.rules.specs.Basic.{pick}
 use Rattle.orders.specs.Sets.{slots, held, slot}
 
@@ -71,20 +71,3 @@ slot-one r x hr hx e m = go (slot-cases r hr) (slot-cases x hx)
     go (inl a) (inr b) = omega arith
     go (inr a) (inl b) = omega arith
     go (inr a) (inr b) = omega arith
-
--- every bit of every word is a rank's
-pub rank-in : (k i : ℕ) → k < slots → i < 24 → (r : ℕ) × (held r ≡ true) × (slot r ≡ k) × (r % 24 ≡ i)
-rank-in k i h l = go (ltb k 5) refl
-  where
-    go : (t : Bool) → ltb k 5 ≡ t → (r : ℕ) × (held r ≡ true) × (slot r ≡ k) × (r % 24 ≡ i)
-    go true e =
-        let r : ℕ = 24 * k + i in
-        let b : r < 120 = omega (arith, ltb-true k 5 e) in
-        let d : r / 24 ≡ k = omega arith in
-        (r, held-few r b, slot-few r b ∙ d, omega arith)
-    go false e =
-        let r : ℕ = 24 * (k + 5) + i in
-        let b : 240 ≤ r = omega (arith, ltb-false k 5 e) in
-        let c : r < 480 = omega arith in
-        let d : r / 24 - 5 ≡ k = omega arith in
-        (r, held-middle r b c, slot-middle r (omega arith) ∙ d, omega arith)

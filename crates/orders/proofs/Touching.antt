@@ -1,12 +1,11 @@
--- A gap made anew word by word: where a net is touched it gets the ranks of the gap before it at which the net has room.
+-- A gap made anew word by word: where a net is touched it gets the ranks of the gap before it at which the net has room, and whether it gets any is told.
 use mathlib.Core.Path.{_≡_, refl, sym, ap, ap₂, _∙_}
 use mathlib.Core.Bool.{Bool, true, false, _&&_, _||_}
 use mathlib.Core.List.{List}
 use mathlib.Core.Logic.{_⊎_, inl, inr}
-use Prim.Native.Nat.{ℕ, suc, _+_, _-_, _/_, _%_, _≤_, _<_}
-use native.Mathlib.Numerals.{add-one}
+use Prim.Native.Nat.{ℕ, suc, _+_, _-_, _*_, _/_, _%_, _≤_, _<_}
 use native.Mathlib.Omega.{arith}
-use lib.Bits.{bitAnd}
+use lib.Bits.{bitAnd, bitOr, and-le-r, or-lt}
 use lib.Dec.{leb, ltb, eqb}
 use borrow.Author.Tests.{eqb-true, eqb-false, ltb-true, ltb-false, leb-true, leb-false, eq-eqb, ne-eqb, lt-ltb, le-ltb, le-leb}
 use Rattle.rules.specs.Basic.{pick, every}
@@ -14,14 +13,19 @@ use Rattle.rules.proofs.Fits.{Fits}
 use Rattle.rules.proofs.PinsTest.{every-at}
 use Rattle.orders.specs.declared.rank.Stop.{Stop}
 use Rattle.orders.specs.Ranks.{fact, RankOf, atOf}
-use Rattle.orders.specs.Sets.{ranks, slots, held, slot, wordAt, bit, marked, source, Written, Empty, Exactly, Loses}
+use Rattle.orders.specs.Sets.{ranks, slots, held, slot, wordAt, bit, marked, source, Written, Empty, Some, Bare, Exactly, Loses}
 use Rattle.orders.specs.Stops.{Sound}
 use Rattle.orders.specs.Passes.{Leads, Onward, Reached}
-use Rattle.orders.specs.Masks.{between, slotsOf, roomAt, roomy, Sources, Redone, Capped, InFour, InFive, InSix}
+use Rattle.orders.specs.Masks.{between, slotsOf, roomAt, roomy, Sources, Redone, InSix}
+use Rattle.orders.specs.Four.{Legal, Mask}
 use Rattle.orders.proofs.Ranks.{fact-most, fact-of-four, fact-of-five}
-use Rattle.orders.proofs.Slots.{slot-below, slot-few, slot-middle, slot-cases}
-use Rattle.orders.proofs.Words.{bit-and}
-use Rattle.orders.proofs.Masks.{same-test, between-in, between-out, between-under, between-over, alike, alike-same, few-room, five-room, six-room}
+use Rattle.orders.proofs.Slots.{held-below, slot-below, slot-few, slot-middle, slot-cases}
+use Rattle.orders.proofs.Words.{bit-and, bit-or, bit-zero, bit-high}
+use Rattle.orders.proofs.FourSets.{either, or-first, or-second}
+use Rattle.orders.proofs.OpeningMarks.{seat, bare-test}
+use Rattle.orders.proofs.EndingSets.{put-bare}
+use Rattle.orders.proofs.Masks.{same-test, and-all, between-in, between-out, between-under, between-over, alike, alike-same}
+use Rattle.orders.proofs.Masks.{legal-room, few-stands-at, five-stands-at, six-stands-at}
 use Rattle.orders.proofs.Bits.{not-both, marked-bit, marked-held, marked-same, source-gap}
 use Rattle.orders.proofs.Hops.{both, fits-fits, hop-met, hop-meets}
 
@@ -82,22 +86,101 @@ module _ (s : List ℕ) (g : ℕ) (Q : ℕ → Bool) where
           or-none true o = o
           or-none false o = refl
 
+-- words made anew, and in one word whether any of them has a rank
+pub record Sifts (s : List ℕ) (g : ℕ) (K Q : ℕ → Bool) (t : List ℕ) (any : ℕ) : Type 0 where
+  pub redone : Redone s g K Q t
+  pub small : any < 16777216
+  pub has : (x : ℕ) → held x ≡ true → K (slot x) ≡ true → Q x ≡ true → bit any (x % 24) ≡ true
+  pub some : (i : ℕ) → bit any i ≡ true → (x : ℕ) × (held x ≡ true) × (K (slot x) ≡ true) × (Q x ≡ true)
+
+module _ (s : List ℕ) (g : ℕ) (Q : ℕ → Bool) where
+  sifts-start : (K : ℕ → Bool) → ((k : ℕ) → k < slots → K k ≡ false) → Sifts s g K Q s 0
+  sifts-start K f =
+      record {
+        redone = redone-map s g Q (λ k. false) K s (λ k l. sym (f k l)) (redone-start s g Q);
+        small = omega arith;
+        has = λ x h e q. absurd (not-both (f (slot x) (slot-below x h)) e);
+        some = λ i e. absurd (not-both (bit-zero i) e);
+      }
+
+  sifts-map : (K L : ℕ → Bool) (t : List ℕ) (any : ℕ) → ((k : ℕ) → k < slots → K k ≡ L k) → Sifts s g K Q t any → Sifts s g L Q t any
+  sifts-map K L t any f a =
+      record {
+        redone = redone-map s g Q K L t f (a .redone);
+        small = a .small;
+        has = λ x h e q. a .has x h (f (slot x) (slot-below x h) ∙ e) q;
+        some = λ i e. let (x, h, k, q) = a .some i e in (x, h, sym (f (slot x) (slot-below x h)) ∙ k, q);
+      }
+
+  -- that word tells whether the gap, if it was empty, still is
+  pub sifts-bare : (K : ℕ → Bool) (t : List ℕ) (any : ℕ) → Empty s g → Sifts s g K Q t any → Bare t g (eqb any 0)
+  sifts-bare K t any z a = bare-test t g any (λ e x l m. none e x l m (K (slot x)) refl) some (a .small)
+    where
+      none : any ≡ 0 → (x : ℕ) → x < ranks → marked t g x ≡ true → (k : Bool) → K (slot x) ≡ k → ⊥
+      none e x l m true k =
+          let h = marked-held t g x m in
+          not-both (bit-zero (x % 24)) (rw e at (a .has x h k (sym (a .redone .done x h k) ∙ m)))
+      none e x l m false k = z x l (sym (a .redone .left x (marked-held t g x m) k) ∙ m)
+
+      some : (i : ℕ) → i < 24 → bit any i ≡ true → Some t g
+      some i l e =
+          let (x, h, k, q) = a .some i e in
+          record { rank = x; within = omega (arith, held-below x h); is = a .redone .done x h k ∙ q }
+
 -- a word of gap g with those bits of gap h that a mask has too
-pub sift-more : (s : List ℕ) (g h : ℕ) (P K : ℕ → Bool) (k m : ℕ) (u v : List ℕ) → (h ≡ g → ⊥) →
-    Redone s g K (λ x. marked s h x && P x) u → Written u g k (bitAnd (wordAt u h k) m) v →
-    ((x : ℕ) → held x ≡ true → slot x ≡ k → marked s h x ≡ true → bit m (x % 24) ≡ P x) →
-    Redone s g (λ j. K j || eqb j k) (λ x. marked s h x && P x) v
-sift-more s g h P K k m u v n a b f = redone-more s g (λ x. marked s h x && P x) K k (bitAnd (wordAt u h k) m) u v a b own
-  where
-    own : (x : ℕ) → held x ≡ true → slot x ≡ k → bit (bitAnd (wordAt u h k) m) (x % 24) ≡ marked s h x && P x
-    own x l e =
-        let old : bit (wordAt u h k) (x % 24) ≡ marked s h x =
-        ap (λ (j : ℕ). bit (wordAt u h j) (x % 24)) (sym e) ∙ sym (marked-bit u h x l) ∙ a .others h x n in
-        bit-and (wordAt u h k) m (x % 24) ∙ ap (λ (t : Bool). t && bit m (x % 24)) old ∙ go (marked s h x) refl
-      where
-        go : (t : Bool) → marked s h x ≡ t → t && bit m (x % 24) ≡ t && P x
-        go true q = f x l e q
-        go false q = refl
+module _ (s : List ℕ) (g h : ℕ) (P K : ℕ → Bool) (k m w : ℕ) (u v : List ℕ) (n : h ≡ g → ⊥) (ew : w ≡ bitAnd (wordAt u h k) m)
+    (b : Written u g k w v) (f : (x : ℕ) → held x ≡ true → slot x ≡ k → marked s h x ≡ true → bit m (x % 24) ≡ P x) where
+  abbrev kept : ℕ → Bool
+  kept x = marked s h x && P x
+
+  sift-own : Redone s g K kept u → (x : ℕ) → held x ≡ true → slot x ≡ k → bit w (x % 24) ≡ kept x
+  sift-own a x l e =
+      let old : bit (wordAt u h k) (x % 24) ≡ marked s h x =
+      ap (λ (j : ℕ). bit (wordAt u h j) (x % 24)) (sym e) ∙ sym (marked-bit u h x l) ∙ a .others h x n in
+      ap (λ (d : ℕ). bit d (x % 24)) ew ∙ bit-and (wordAt u h k) m (x % 24) ∙ ap (λ (t : Bool). t && bit m (x % 24)) old ∙ go (marked s h x) refl
+    where
+      go : (t : Bool) → marked s h x ≡ t → t && bit m (x % 24) ≡ t && P x
+      go true q = f x l e q
+      go false q = refl
+
+  sift-more : Redone s g K kept u → Redone s g (λ j. K j || eqb j k) kept v
+  sift-more a = redone-more s g kept K k w u v a b (sift-own a)
+
+  sifts-more : (any : ℕ) → k < slots → m < 16777216 → Sifts s g K kept u any → Sifts s g (λ j. K j || eqb j k) kept v (bitOr any w)
+  sifts-more any hk hm a =
+      record {
+        redone = sift-more (a .redone);
+        small = or-lt 24 any w (a .small) low;
+        has = λ x l e q. bit-or any w (x % 24) ∙ has x l q (either (K (slot x)) (eqb (slot x) k) e);
+        some = λ i e. some i (either (bit any i) (bit w i) (sym (bit-or any w i) ∙ e));
+      }
+    where
+      low : w < 16777216
+      low = omega (arith, ew, and-le-r (wordAt u h k) m)
+
+      has : (x : ℕ) → held x ≡ true → kept x ≡ true → (K (slot x) ≡ true) ⊎ (eqb (slot x) k ≡ true) →
+          bit any (x % 24) || bit w (x % 24) ≡ true
+      has x l q (inl e) = or-first (bit any (x % 24)) (bit w (x % 24)) (a .has x l e q)
+      has x l q (inr e) =
+          or-second (bit any (x % 24)) (bit w (x % 24)) (sift-own (a .redone) x l (eqb-true (slot x) k e) ∙ q)
+
+      some : (i : ℕ) → (bit any i ≡ true) ⊎ (bit w i ≡ true) →
+          (x : ℕ) × (held x ≡ true) × (K (slot x) || eqb (slot x) k ≡ true) × (kept x ≡ true)
+      some i (inl e) =
+          let (x, l, c, q) = a .some i e in
+          (x, l, or-first (K (slot x)) (eqb (slot x) k) c, q)
+      some i (inr e) =
+          let c = seat k i hk (within (ltb i 24) refl) in
+          let x = c .rank in (
+            x,
+            c .can,
+            or-second (K (slot x)) (eqb (slot x) k) (eq-eqb (slot x) k (c .where-in)),
+            sym (sift-own (a .redone) x (c .can) (c .where-in)) ∙ rw (c .which) e,
+          )
+        where
+          within : (t : Bool) → ltb i 24 ≡ t → i < 24
+          within true d = ltb-true i 24 d
+          within false d = absurd (not-both (bit-high w 24 i low (ltb-false i 24 d)) e)
 
 -- the words of ranks of b nets
 module _ (b k : ℕ) where
@@ -125,10 +208,6 @@ and-none : (t : Bool) → t && false ≡ false
 and-none true = refl
 and-none false = refl
 
-and-all : (t : Bool) → t && true ≡ t
-and-all true = refl
-and-all false = refl
-
 -- the ranks of the words of five nets, and of six
 slot-five : (x : ℕ) → held x ≡ true → slot x < 5 → (x < 120) × (slot x ≡ x / 24)
 slot-five x h l = go (slot-cases x h)
@@ -146,42 +225,41 @@ slot-six x h l = go (slot-cases x h)
     go (inr q) = q
 
 -- at most four nets: the one word
-pub few-done : (t : Stop) (s : List ℕ) (g h hi m : ℕ) (v : List ℕ) → (h ≡ g → ⊥) → Sound t → t .kind ≡ 1 → t .count < 5 →
-    t .count ≤ t .ku + t .kl → Sources t s g → Capped (t .ku + 5 - t .count) hi → InFour (t .age + 4 - t .count) (3 - t .kl) hi m →
-    Written s g 0 (bitAnd (wordAt s h 0) m) v → g ≡ suc h → Redone s g (slotsOf (t .count)) (λ x. marked s h x && roomy t x) v
-few-done t s g h hi m v n sound touches few sum o c f w eg =
-    redone-map s g (λ x. marked s h x && roomy t x) (λ k. eqb k 0) (slotsOf (t .count)) v (λ k l. sym (slots-few (t .count) k few))
-    (sift-more s g h (roomy t) (λ k. false) 0 m s v n (redone-start s g (λ x. marked s h x && roomy t x)) w at-rank)
+pub few-done : (t : Stop) (l : ℕ) (s : List ℕ) (g h m w : ℕ) (v : List ℕ) → g ≡ suc h → t .count < 5 → Sources t s g →
+    Mask (fact (t .count)) (λ r. bit l (atOf (t .age) (t .count) r)) m → w ≡ bitAnd (wordAt s h 0) m → Written s g 0 w v →
+    Redone s g (λ k. false || eqb k 0) (λ x. marked s h x && bit l (atOf (t .age) (t .count) x)) v
+few-done t l s g h m w v eg few o f ew b =
+    sift-more s g h P (λ k. false) 0 m w s v (λ e. omega arith) ew b at-rank (redone-start s g (λ x. marked s h x && P x))
   where
-    at-rank : (x : ℕ) → held x ≡ true → slot x ≡ 0 → marked s h x ≡ true → bit m (x % 24) ≡ roomy t x
-    at-rank x l e q =
-        let r : RankOf (t .count) x = o x (source-gap s g h x eg ∙ q) in
-        few-room (t .ku) (t .kl) (t .age) (t .count) hi m x (sound .lower) (sound .touched (omega arith)) few sum (r .below) c f
+    P : ℕ → Bool
+    P x = bit l (atOf (t .age) (t .count) x)
+
+    at-rank : (x : ℕ) → held x ≡ true → slot x ≡ 0 → marked s h x ≡ true → bit m (x % 24) ≡ P x
+    at-rank x i e q =
+        few-stands-at (fact (t .count)) m x P (omega (arith, fact-most (t .count) 4 (omega arith), fact-of-four))
+        (o x (source-gap s g h x eg ∙ q) .below) f
+
+pub few-bare : (s : List ℕ) (g m x w : ℕ) (v : List ℕ) → m < 16777216 → w ≡ bitAnd x m → Written s g 0 w v → Empty s g →
+    Bare v g (eqb w 0)
+few-bare s g m x w v l ew b z = put-bare s g 0 w v (omega arith) b z (omega (arith, ew, and-le-r x m))
 
 -- five nets: the words before e
-module _ (ku kl a : ℕ) (s : List ℕ) (g h : ℕ) where
-  abbrev Five : ℕ → Bool
-  Five x = marked s h x && roomAt ku kl a 5 x
+module _ (a l : ℕ) (s : List ℕ) (g h : ℕ) where
+  abbrev pub Five : ℕ → Bool
+  Five x = marked s h x && bit l (atOf a 5 x)
 
-  pub five-start : Redone s g (λ k. ltb k 0) Five s
-  five-start = redone-map s g Five (λ k. false) (λ k. ltb k 0) s (λ k l. sym (le-ltb k 0 (omega arith))) (redone-start s g Five)
+  pub five-start : Sifts s g (λ k. ltb k 0) Five s 0
+  five-start = sifts-start s g Five (λ k. ltb k 0) (λ k i. le-ltb k 0 (omega arith))
 
-  pub five-step : (e m : ℕ) (u v : List ℕ) → (h ≡ g → ⊥) → a < 5 → 5 ≤ ku + kl → e < 5 → Redone s g (λ k. ltb k e) Five u →
-      InFive a (4 - kl) (ku + 1) e m → Written u g e (bitAnd (wordAt u h e) m) v → Redone s g (λ k. ltb k (e + 1)) Five v
-  five-step e m u v n ha sum l r f w =
-      redone-map s g Five (λ k. ltb k e || eqb k e) (λ k. ltb k (e + 1)) v (λ k j. one-more k e)
-      (sift-more s g h (roomAt ku kl a 5) (λ k. ltb k e) e m u v n r w at-rank)
+  pub five-step : (e m w any : ℕ) (u v : List ℕ) → (h ≡ g → ⊥) → e < 5 → Sifts s g (λ k. ltb k e) Five u any →
+      Mask 24 (λ r. bit l (atOf a 5 (24 * e + r))) m → w ≡ bitAnd (wordAt u h e) m → Written u g e w v →
+      Sifts s g (λ k. ltb k (e + 1)) Five v (bitOr any w)
+  five-step e m w any u v n i r f ew b =
+      sifts-map s g Five (λ k. ltb k e || eqb k e) (λ k. ltb k (e + 1)) v (bitOr any w) (λ k j. one-more k e)
+      (sifts-more s g h (λ x. bit l (atOf a 5 x)) (λ k. ltb k e) e m w u v n ew b at-rank any (omega arith) (f .below) r)
     where
-      at-rank : (x : ℕ) → held x ≡ true → slot x ≡ e → marked s h x ≡ true → bit m (x % 24) ≡ roomAt ku kl a 5 x
-      at-rank x j q y =
-          let (b, d) = slot-five x j (omega arith) in
-          five-room ku kl a e m x ha sum (sym q ∙ d) b (rw (add-one ku) at f)
-
-  pub five-end : (b e : ℕ) (u : List ℕ) → b ≡ 5 → 5 ≤ e → e ≤ 5 → Redone s g (λ k. ltb k e) Five u →
-      Redone s g (slotsOf b) (λ x. marked s h x && roomAt ku kl a b x) u
-  five-end b e u eb l j r =
-      let d : e ≡ 5 = omega arith in
-      rw eb (redone-map s g Five (λ k. ltb k e) (slotsOf 5) u (λ k i. ap (ltb k) d ∙ sym (slots-five 5 k refl)) r)
+      at-rank : (x : ℕ) → held x ≡ true → slot x ≡ e → marked s h x ≡ true → bit m (x % 24) ≡ bit l (atOf a 5 x)
+      at-rank x j q y = five-stands-at a l e m x (sym q ∙ slot-five x j (omega arith) .1) f
 
 -- six nets: the words of two places of the youngest, for the next before e
 pub paired : (e k : ℕ) → Bool
@@ -212,35 +290,27 @@ unfolding paired
 pair-all k = ap (λ (t : Bool). leb 5 k && t) (lt-ltb ((k - 5) % 5) 5 (omega arith)) ∙ and-all (leb 5 k)
 
 module _ (a : ℕ) (s : List ℕ) (g h : ℕ) where
-  abbrev Six : ℕ → Bool
+  abbrev pub Six : ℕ → Bool
   Six x = marked s h x && roomAt 3 3 a 6 x
 
-  pub six-start : Redone s g (paired 0) Six s
-  six-start = redone-map s g Six (λ k. false) (paired 0) s (λ k l. sym (pair-none k)) (redone-start s g Six)
+  pub six-start : Sifts s g (paired 0) Six s 0
+  six-start = sifts-start s g Six (paired 0) (λ k l. pair-none k)
 
-  pub six-step : (e m : ℕ) (u v w : List ℕ) → (h ≡ g → ⊥) → a < 6 → e < 5 → Redone s g (paired e) Six u → InSix a e m →
-      Written u g (5 + e) (bitAnd (wordAt u h (5 + e)) m) v → Written v g (10 + e) (bitAnd (wordAt v h (10 + e)) m) w →
-      Redone s g (paired (e + 1)) Six w
-  six-step e m u v w n ha l r f y z =
-      redone-map s g Six (λ k. (paired e k || eqb k (5 + e)) || eqb k (10 + e)) (paired (e + 1)) w (λ k j. pair-more e k l j)
-      (sift-more s g h (roomAt 3 3 a 6) (λ k. paired e k || eqb k (5 + e)) (10 + e) m v w n
-      (sift-more s g h (roomAt 3 3 a 6) (paired e) (5 + e) m u v n r y (λ x j q d. at-rank x (5 + e) j q (omega arith) (omega arith)))
-      z (λ x j q d. at-rank x (10 + e) j q (omega arith) (omega arith)))
+  pub six-step : (e m x y any : ℕ) (u v w : List ℕ) → (h ≡ g → ⊥) → e < 5 → Sifts s g (paired e) Six u any → InSix a e m →
+      x ≡ bitAnd (wordAt u h (5 + e)) m → Written u g (5 + e) x v → y ≡ bitAnd (wordAt v h (10 + e)) m → Written v g (10 + e) y w →
+      Sifts s g (paired (e + 1)) Six w (bitOr (bitOr any x) y)
+  six-step e m x y any u v w n l r f ex b ey c =
+      sifts-map s g Six (λ k. (paired e k || eqb k (5 + e)) || eqb k (10 + e)) (paired (e + 1)) w (bitOr (bitOr any x) y)
+      (λ k j. pair-more e k l j)
+      (sifts-more s g h (roomAt 3 3 a 6) (λ k. paired e k || eqb k (5 + e)) (10 + e) m y v w n ey c
+      (λ z j q d. at-rank z (10 + e) j q (omega arith) (omega arith)) (bitOr any x) (omega arith) (f .below)
+      (sifts-more s g h (roomAt 3 3 a 6) (paired e) (5 + e) m x u v n ex b
+      (λ z j q d. at-rank z (5 + e) j q (omega arith) (omega arith)) any (omega arith) (f .below) r))
     where
-      at-rank : (x k : ℕ) → held x ≡ true → slot x ≡ k → 5 ≤ k → e ≡ k % 5 → bit m (x % 24) ≡ roomAt 3 3 a 6 x
-      at-rank x k j q c d =
-          let (b, t, i) = slot-six x j (omega arith) in
-          six-room 3 3 a e m x ha (omega arith) (omega arith) (omega arith) (omega arith) b t f
-
-pub six-end : (t : Stop) (s : List ℕ) (g h e : ℕ) (u : List ℕ) → Sound t → t .count ≡ 6 → t .count ≤ t .ku + t .kl → 5 ≤ e → e ≤ 5 →
-    Redone s g (paired e) (Six (t .age) s g h) u → Redone s g (slotsOf (t .count)) (λ x. marked s h x && roomy t x) u
-six-end t s g h e u sound eb sum l j r =
-    let d : e ≡ 5 = omega arith in
-    let eu : t .ku ≡ 3 = omega (arith, sound .upper, sound .lower) in
-    let el : t .kl ≡ 3 = omega (arith, sound .upper, sound .lower) in
-    rw (eb, eu, el)
-    (redone-map s g (Six (t .age) s g h) (paired e) (slotsOf 6) u
-    (λ k i. ap (λ (n : ℕ). paired n k) d ∙ pair-all k ∙ sym (slots-six 6 k refl)) r)
+      at-rank : (z k : ℕ) → held z ≡ true → slot z ≡ k → 5 ≤ k → e ≡ k % 5 → bit m (z % 24) ≡ roomAt 3 3 a 6 z
+      at-rank z k j q c d =
+          let (b, t, i) = slot-six z j (omega arith) in
+          six-stands-at a e m z (omega arith) b t f
 
 pub rank-slots : (b r : ℕ) → b ≤ 6 → held r ≡ true → RankOf b r → slotsOf b (slot r) ≡ true
 rank-slots b r h l m = go (ltb b 5) (eqb b 5) refl refl
@@ -259,6 +329,16 @@ rank-slots b r h l m = go (ltb b 5) (eqb b 5) refl refl
         let hr : 240 ≤ r = m .middle hb in
         slots-six b (slot r) hb ∙ le-leb 5 (slot r) (omega (arith, slot-middle r (omega arith)))
 
+-- a gap that is left empty, where nothing is led to
+pub unreached : (t : Stop) (s : List ℕ) (g : ℕ) → Empty s g → ((x : ℕ) → Reached t s g x → ⊥) → Exactly s g (Reached t s g) s
+unreached t s g z f =
+    record {
+      long = refl;
+      others = λ y x l n. refl;
+      sound = λ x l e. absurd (z x l e);
+      full = λ x l r. absurd (f x r);
+    }
+
 -- what is made of an empty gap so is what the node leads to
 module _ (t : Stop) (s : List ℕ) (g h : ℕ) (eg : g ≡ suc h) (sound : Sound t) (touches : t .kind ≡ 1) where
   room-leads : (r : ℕ) → roomy t r ≡ true → Leads t r r
@@ -276,21 +356,23 @@ module _ (t : Stop) (s : List ℕ) (g h : ℕ) (eg : g ≡ suc h) (sound : Sound
       fits-fits (t .ku) (t .kl) (suc (atOf (t .age) (t .count) r)) (t .count) e in
       omega arith
 
-  pub redone-exactly : (u : List ℕ) → Empty s g → Sources t s g → Redone s g (slotsOf (t .count)) (λ x. marked s h x && roomy t x) u →
+  -- P tells, of the ranks before the node, where the net has room
+  redone-exactly : (P K : ℕ → Bool) (u : List ℕ) → ((x : ℕ) → RankOf (t .count) x → P x ≡ roomy t x) →
+      ((k : ℕ) → k < slots → K k ≡ slotsOf (t .count) k) → Empty s g → Sources t s g → Redone s g K (λ x. marked s h x && P x) u →
       Exactly s g (Reached t s g) u
-  redone-exactly u z o a =
+  redone-exactly P K u p f z o a =
       record {
         long = a .long;
         others = λ y x l n. a .others y x n;
-        sound = λ x l e. sound-at x l e (slotsOf (t .count) (slot x)) refl;
+        sound = λ x l e. sound-at x l e (K (slot x)) refl;
         full = λ x l r. full x r;
       }
     where
-      sound-at : (x : ℕ) → x < ranks → marked u g x ≡ true → (k : Bool) → slotsOf (t .count) (slot x) ≡ k → Reached t s g x
+      sound-at : (x : ℕ) → x < ranks → marked u g x ≡ true → (k : Bool) → K (slot x) ≡ k → Reached t s g x
       sound-at x l e true k =
-          let q = both (marked s h x) (roomy t x) (sym (a .done x (marked-held u g x e) k) ∙ e) in
-          let f : source s g x ≡ true = source-gap s g h x eg ∙ q .0 in
-          record { rank = x; below = o x f .below; from = f; leads = room-leads x (q .1) }
+          let q = both (marked s h x) (P x) (sym (a .done x (marked-held u g x e) k) ∙ e) in
+          let i : source s g x ≡ true = source-gap s g h x eg ∙ q .0 in
+          record { rank = x; below = o x i .below; from = i; leads = room-leads x (sym (p x (o x i)) ∙ q .1) }
       sound-at x l e false k = absurd (z x l (sym (a .left x (marked-held u g x e) k) ∙ e))
 
       full : (x : ℕ) → Reached t s g x → marked u g x ≡ true
@@ -298,20 +380,44 @@ module _ (t : Stop) (s : List ℕ) (g h : ℕ) (eg : g ≡ suc h) (sound : Sound
           let y : ℕ = r .rank in
           let m : marked s h y ≡ true = sym (source-gap s g h y eg) ∙ r .from in
           let l : held y ≡ true = marked-held s h y m in
-          let (e, f) = leads-room y x (r .leads) in
-          let d : marked u g y ≡ true =
-          a .done y l (rank-slots (t .count) y (sound .few) l (o y (r .from))) ∙ ap₂ _&&_ m f in
+          let (e, i) = leads-room y x (r .leads) in
+          let c : K (slot y) ≡ true = f (slot y) (slot-below y l) ∙ rank-slots (t .count) y (sound .few) l (o y (r .from)) in
+          let d : marked u g y ≡ true = a .done y l c ∙ ap₂ _&&_ m (p y (o y (r .from)) ∙ i) in
           rw (← e) d
+
+  -- at most four nets, five, six
+  module _ (z : Empty s g) (o : Sources t s g) where
+    among : t .age < t .count
+    among = sound .touched (omega arith)
+
+    pub few-exactly : (l : ℕ) (u : List ℕ) → t .count < 5 → Legal (t .ku) (t .kl) (t .count) l →
+        Redone s g (λ k. false || eqb k 0) (λ x. marked s h x && bit l (atOf (t .age) (t .count) x)) u → Exactly s g (Reached t s g) u
+    few-exactly l u few f a =
+        redone-exactly (λ x. bit l (atOf (t .age) (t .count) x)) (λ k. false || eqb k 0) u
+        (λ x r. legal-room (t .ku) (t .kl) (t .age) (t .count) l x f among (r .below)) (λ k i. sym (slots-few (t .count) k few)) z o a
+
+    pub five-exactly : (l e any : ℕ) (u : List ℕ) → t .count ≡ 5 → Legal (t .ku) (t .kl) 5 l → 5 ≤ e → e ≤ 5 →
+        Sifts s g (λ k. ltb k e) (Five (t .age) l s g h) u any → Exactly s g (Reached t s g) u
+    five-exactly l e any u eb f i j a =
+        let d : e ≡ 5 = omega arith in
+        redone-exactly (λ x. bit l (atOf (t .age) 5 x)) (λ k. ltb k e) u
+        (λ x r.
+        let b : x < fact 5 = rw eb at (r .below) in
+        legal-room (t .ku) (t .kl) (t .age) 5 l x f (omega (arith, among)) b ∙ ap (λ (n : ℕ). roomAt (t .ku) (t .kl) (t .age) n x) (sym eb))
+        (λ k m. ap (ltb k) d ∙ sym (slots-five (t .count) k eb)) z o (a .redone)
+
+    pub six-exactly : (e any : ℕ) (u : List ℕ) → t .count ≡ 6 → 6 ≤ t .ku + t .kl → 5 ≤ e → e ≤ 5 →
+        Sifts s g (paired e) (Six (t .age) s g h) u any → Exactly s g (Reached t s g) u
+    six-exactly e any u eb sum i j a =
+        let d : e ≡ 5 = omega arith in
+        let eu : t .ku ≡ 3 = omega (arith, sound .upper, sound .lower) in
+        let el : t .kl ≡ 3 = omega (arith, sound .upper, sound .lower) in
+        redone-exactly (roomAt 3 3 (t .age) 6) (paired e) u (λ x r. rw (eu, el, eb))
+        (λ k m. ap (λ (n : ℕ). paired n k) d ∙ pair-all k ∙ sym (slots-six (t .count) k eb)) z o (a .redone)
 
   -- where no order fits nothing is led to
   pub none-exactly : t .ku + t .kl < t .count → Empty s g → Exactly s g (Reached t s g) s
-  none-exactly c z =
-      record {
-        long = refl;
-        others = λ y x l n. refl;
-        sound = λ x l e. absurd (z x l e);
-        full = λ x l r. absurd (room-sum (r .rank) c (leads-room (r .rank) x (r .leads) .1));
-      }
+  none-exactly c z = unreached t s g z (λ x r. room-sum (r .rank) c (leads-room (r .rank) x (r .leads) .1))
 
 -- words copied from the gap after
 copy-same : (from k j : ℕ) → from ≤ k → between from k j || eqb j k ≡ between from (k + 1) j

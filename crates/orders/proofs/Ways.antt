@@ -210,6 +210,13 @@ module _ (ku kl : ℕ) (hu : ku ≤ 3) (hl : kl ≤ 3) where
       let n = way-comes i ss x t w in
       ready k a b x (drop (suc i) ss) (drop-cons ss i d l ∙ ap (λ s. s ∷ drop (suc i) ss) e) (n .plan) (n .rank)
 
+-- the first step, which finds no net open, is a B
+pub first-begins : {c : ℕ} {ss : List Step} (k a b : ℕ) (ts : List Step) → ss ≡ step k a b ∷ ts → Steps c ss → c ≡ 0 → 0 < k → ⊥
+first-begins k a b ts e (nil h) z l = let q : _≡_ {A = ℕ} 0 1 = cc in omega arith
+first-begins k a b ts e full z l = omega arith
+first-begins k a b ts e (begins h u) z l = let m : 0 ≡ k = cc in omega arith
+first-begins k a b ts e (meet w q j f u) z l = omega arith
+
 -- the steps that three lists hold, one by one
 pub steps-length : (ks xs cs : List ℕ) → length (steps ks xs cs) ≡ length ks
 unfolding steps

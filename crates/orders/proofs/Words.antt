@@ -28,7 +28,7 @@ abbrev Tells : (ℕ → ℕ → ℕ) → (Bool → Bool → Bool) → (x y : ℕ
 Tells f h x y = (f x y < 2) × (eqb (f x y) 1 ≡ h (eqb x 1) (eqb y 1))
 
 -- a test turned over where another passes
-abbrev pub turned : Bool → Bool → Bool
+abbrev turned : Bool → Bool → Bool
 turned a true = not a
 turned a false = a
 
@@ -57,7 +57,7 @@ module _ (a b i : ℕ) where
       ap (λ (d : ℕ). eqb (d % 2) 1) (or-shr a b i) ∙
       combined max _||_ (omega arith, refl) (omega arith, refl) (omega arith, refl) (omega arith, refl) (bitOr x y) (bitOr (x / 2) (y / 2)) x y (or-step x y)
 
-  pub bit-xor : bit (bitXor a b) i ≡ turned (bit a i) (bit b i)
+  bit-xor : bit (bitXor a b) i ≡ turned (bit a i) (bit b i)
   unfolding bit
   bit-xor =
       let x : ℕ = a / 2 ^ i in

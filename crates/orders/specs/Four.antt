@@ -50,6 +50,11 @@ pub record Pulls (f : ℕ → ℕ) (y z : ℕ) : Type 0 where
   pub below : z < 16777216
   pub bits : (i : ℕ) → i < 24 → bit z i ≡ bit y (f i)
 
+-- of the ranks below n the word z, of 24 ranks, has those that pass the test t
+pub record Mask (n : ℕ) (t : ℕ → Bool) (z : ℕ) : Type 0 where
+  pub below : z < 16777216
+  pub bits : (r : ℕ) → r < n → bit z r ≡ t r
+
 -- what is left of the piece p of x, the orders with the youngest net at p
 abbrev pub pieceLeft : (e p x : ℕ) → ℕ
 pieceLeft e p x = image (λ m. leftOf e (6 * p + m)) x 6

@@ -2,7 +2,6 @@
 use mathlib.Core.Path.{_≡_}
 use mathlib.Core.Bool.{Bool, true, false, _&&_, _||_}
 use mathlib.Core.List.{List}
-use mathlib.Core.Logic.{_⊎_}
 use Prim.Native.Nat.{ℕ, zero, suc, _+_, _-_, _*_, _/_, _%_, _^_, _<_, _≤_}
 use lib.ListN.{length, getD}
 use lib.Dec.{eqb, ltb, leb}
@@ -64,14 +63,6 @@ pub record Set (s : List ℕ) (g r : ℕ) (v : Bool) (t : List ℕ) : Type 0 whe
   pub long : length t ≡ length s
   pub own : marked t g r ≡ v
   pub others : (h x : ℕ) → x < ranks → (h ≡ g → x ≡ r → ⊥) → marked t h x ≡ marked s h x
-
--- t is s with the ranks of P marked in gap g besides
-pub record Gains (s : List ℕ) (g : ℕ) (P : ℕ → Type 0) (t : List ℕ) : Type 0 where
-  pub long : length t ≡ length s
-  pub others : (h x : ℕ) → x < ranks → (h ≡ g → ⊥) → marked t h x ≡ marked s h x
-  pub sound : (x : ℕ) → x < ranks → marked t g x ≡ true → (marked s g x ≡ true) ⊎ P x
-  pub kept : (x : ℕ) → x < ranks → marked s g x ≡ true → marked t g x ≡ true
-  pub full : (x : ℕ) → x < ranks → P x → marked t g x ≡ true
 
 -- t is s with exactly the ranks of P marked in gap g
 pub record Exactly (s : List ℕ) (g : ℕ) (P : ℕ → Type 0) (t : List ℕ) : Type 0 where

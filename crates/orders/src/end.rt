@@ -1,7 +1,9 @@
 // One net's ending, forward and back, by words: the sets before and after it in a few operations.
 use crate::four::back;
+use crate::four::few_at;
 use crate::four::legal;
 use crate::four::standing;
+use crate::four::taken;
 use crate::four::without;
 use crate::rank::Stop;
 use crate::word::put_word;
@@ -13,7 +15,7 @@ ghost use lib.ListN.{length};
 ghost use lib.Bits.{bitAnd, bitOr};
 ghost use lib.Dec.{eqb};
 ghost use Rattle.rules.specs.Basic.{pick};
-ghost use Rattle.orders.specs.Ranks.{fact, atOf};
+ghost use Rattle.orders.specs.Ranks.{fact};
 ghost use Rattle.orders.specs.Sets.{stretch, slots, wordAt, bit, Written, Empty, Bare, Exactly, Loses};
 ghost use Rattle.orders.specs.Stops.{Sound};
 ghost use Rattle.orders.specs.Passes.{Reached, Onward};
@@ -120,14 +122,6 @@ fn few_back(tables: &[u32], b: usize, a: usize, l: u32, n: u32) -> u32
 {
     let z = few_at(tables, b, a, l);
     z & back(tables, b - 1 - a, n % 64)
-}
-
-// The orders of b nets in which the one of age a stands at a place of l.
-fn few_at(tables: &[u32], b: usize, a: usize, l: u32) -> u32
-    requires { ⌜ Tables (now tables) × (a < b) × (b ≤ 4) × (l < 2 ^ b) ⌝ }
-    ensures { λ z. ⌜ ((r : ℕ) → r < fact b → bit z r ≡ bit l (atOf a b r)) ⌝ }
-{
-    standing(tables, b - 1 - a, l << (4 - b))
 }
 
 // A net ends with five open.
@@ -310,17 +304,6 @@ fn under_at(tables: &[u32], e: usize, l: u32, d: usize) -> u32
     ensures { λ z. ⌜ Passing (underAt e l d) z ⌝ }
 {
     standing(tables, e, l % (2u32 << d))
-}
-
-// The word w, where k is in l.
-fn taken(l: u32, k: usize, w: u32) -> u32
-    requires { ⌜ k < 32 ⌝ }
-    ensures { λ z. ⌜ ((i : ℕ) → bit z i ≡ bit l k && bit w i) ⌝ }
-{
-    if (l >> k) % 2 == 1 {
-        return w;
-    }
-    0
 }
 
 // The orders of five that leave one of n.

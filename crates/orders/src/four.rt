@@ -2,8 +2,14 @@
 //
 // A net is named by its elders, how many of the four are older. Fewer than four nets are four with the missing ones on top.
 ghost use mathlib.Core.Path.{_≡_};
-ghost use Prim.Native.Nat.{_*_, _+_, _/_, _%_, _^_, _≤_, _<_};
-ghost use Rattle.orders.specs.Four.{placeOf, leftOf, pieceLeft, Left, Pulls, Legal, Tables};
+ghost use mathlib.Core.Bool.{_&&_};
+ghost use Prim.Native.Nat.{ℕ, _*_, _+_, _/_, _%_, _^_, _≤_, _<_};
+ghost use Rattle.orders.specs.Ranks.{fact, atOf};
+ghost use Rattle.orders.specs.Sets.{bit};
+ghost use Rattle.orders.specs.Four.{placeOf, leftOf, pieceLeft, Left, Pulls, Legal, Mask, Tables};
+
+// All orders of four nets.
+pub const ALL: u32 = 16777215;
 
 // The words of the tables: 64 for each net that ends, 64 for each to lead back, 16 for each to stand at a place of a set of four, then 8 for each street pair, where a net may stand.
 pub const TABLES: [u32; 704] = [
@@ -761,4 +767,34 @@ pub fn legal(tables: &[u32], ku: u8, kl: u8, b: usize) -> u32
     let upper = ku as usize;
     let lower = kl as usize;
     tables[576 + 32 * upper + 8 * lower + b]
+}
+
+// The orders of b nets in which the one of age a stands at a place of l.
+pub fn few_at(tables: &[u32], b: usize, a: usize, l: u32) -> u32
+    requires { ⌜ Tables (now tables) × (a < b) × (b ≤ 4) × (l < 2 ^ b) ⌝ }
+    ensures { λ z. ⌜ Mask (fact b) (λ r. bit l (atOf a b r)) z ⌝ }
+{
+    standing(tables, b - 1 - a, l << (4 - b))
+}
+
+// The orders of four older nets, with the youngest of five at e, in which the net of age a of the five stands at a place of l.
+pub fn five_at(tables: &[u32], a: usize, l: u32, e: usize) -> u32
+    requires { ⌜ Tables (now tables) × (a < 5) × (l < 32) × (e < 5) ⌝ }
+    ensures { λ m. ⌜ Mask 24 (λ r. bit l (atOf a 5 (24 * e + r))) m ⌝ }
+{
+    if a == 0 {
+        return taken(l, e, ALL);
+    }
+    standing(tables, 4 - a, l % (1u32 << e) | ((l >> (e + 1)) << e))
+}
+
+// The word w, where k is in l.
+pub fn taken(l: u32, k: usize, w: u32) -> u32
+    requires { ⌜ k < 32 ⌝ }
+    ensures { λ z. ⌜ ((i : ℕ) → bit z i ≡ bit l k && bit w i) × (z ≤ w) ⌝ }
+{
+    if (l >> k) % 2 == 1 {
+        return w;
+    }
+    0
 }

@@ -1,7 +1,6 @@
 // Sets of orders, as marks on ranks in lent bytes, and the passes of the router over them.
 pub mod end;
 pub mod four;
-pub mod mask;
 pub mod open;
 pub mod pass;
 pub mod rank;

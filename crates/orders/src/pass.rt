@@ -10,7 +10,6 @@ use crate::rank::fit;
 use crate::rank::hop;
 use crate::rank::locate;
 use crate::reach::spread;
-use crate::set::bare;
 use crate::set::is_marked;
 use crate::set::unmark;
 use crate::touch::prune_touched;
@@ -48,7 +47,7 @@ pub fn forward(work: &mut [u8], kinds: &[u8], ages: &[u8], counts: &[u8], ku: u8
     forward_by(work, kinds, ages, counts, ku, kl, tables)
 }
 
-// The same, with the tables of endings.
+// The same, with the tables of touches and endings.
 fn forward_by(
     work: &mut [u8],
     kinds: &[u8],
@@ -67,8 +66,7 @@ fn forward_by(
     let mut i = 0;
     while i < n {
         let stop = stop_at(kinds, ages, counts, ku, kl, i);
-        spread(work, i, stop, tables);
-        if bare(work, i) {
+        if spread(work, i, stop, tables) {
             return i;
         }
         i += 1;

@@ -5,10 +5,7 @@ ghost use mathlib.Core.Path.{_≡_};
 ghost use mathlib.Core.Bool.{true, false, not};
 ghost use Prim.Native.Nat.{suc, _*_, _≤_, _<_};
 ghost use lib.ListN.{length};
-ghost use Rattle.orders.specs.Sets.{stretch, slots, held, slot, marked, source, Holds, Set, Bare, Clear};
-
-// The words of a gap.
-const SLOTS: usize = 15;
+ghost use Rattle.orders.specs.Sets.{stretch, slots, held, slot, marked, Holds, Set, Clear};
 
 // Whether rank r of gap g is marked.
 pub fn is_marked(work: &[u8], g: usize, r: usize) -> bool
@@ -19,17 +16,6 @@ pub fn is_marked(work: &[u8], g: usize, r: usize) -> bool
         return false;
     }
     (word(work, g, place(r)) >> (r % 24)) % 2 == 1
-}
-
-// Marks rank r of gap g.
-pub fn mark(work: &mut [u8], g: usize, r: usize)
-    requires { ⌜ Holds (now work) g r ⌝ }
-    ensures { λ _. ⌜ Set (now (work .entry)) g r true (now (work .exit)) ⌝ }
-{
-    if is_marked(work, g, r) {
-        return;
-    }
-    turn(work, g, r);
 }
 
 // Takes the mark of rank r of gap g away.
@@ -74,33 +60,6 @@ fn place(r: usize) -> usize
         return r / 24;
     }
     r / 24 - 5
-}
-
-// Whether rank r is one before node g.
-pub fn is_source(work: &[u8], g: usize, r: usize) -> bool
-    requires { ⌜ stretch * g ≤ length (now work) ⌝ }
-    ensures { λ t. ⌜ t ≡ source (now (work .entry)) g r ⌝ }
-{
-    if g == 0 {
-        return r == 0;
-    }
-    is_marked(work, g - 1, r)
-}
-
-// Whether no rank of gap g is marked.
-pub fn bare(work: &[u8], g: usize) -> bool
-    requires { ⌜ stretch * suc g ≤ length (now work) ⌝ }
-    ensures { λ t. ⌜ Bare (now (work .entry)) g t ⌝ }
-{
-    let mut k: usize = 0;
-    while k < SLOTS {
-        let w = word(work, g, k);
-        if 0 < w % 16777216 {
-            return false;
-        }
-        k += 1;
-    }
-    true
 }
 
 // Clears all of the bytes.

@@ -20,7 +20,7 @@ returns : tie.Need-returns
 returns c =
     let g = c .before .before .before .args in
     let h = c .before .before .before .pre in
-    few-comes (g .b) (g .a) (h .1) (h .2) (g .l) (h .3) (c .before .few-at .result) (c .before .few-at .ensures) (g .n) (c .back .result)
+    few-comes (g .b) (g .a) (h .1) (h .2) (g .l) (h .3) (c .before .few-at .result) (c .before .few-at .ensures .bits) (g .n) (c .back .result)
     (c .back .ensures)
 
 pub few-back-spec : {M : Type 1} → statement M

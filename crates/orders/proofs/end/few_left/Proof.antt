@@ -20,7 +20,7 @@ returns : tie.Need-returns
 returns c =
     let g = c .before .before .before .args in
     let h = c .before .before .before .pre in
-    few-gone (g .b) (g .a) (h .0 .1) (h .0 .2) (g .l) (h .0 .3) (c .before .few-at .result) (c .before .few-at .ensures) (g .w) (c .without .result) (h .1)
+    few-gone (g .b) (g .a) (h .0 .1) (h .0 .2) (g .l) (h .0 .3) (c .before .few-at .result) (c .before .few-at .ensures .bits) (g .w) (c .without .result) (h .1)
     (c .without .ensures)
 
 pub few-left-spec : {M : Type 1} → statement M

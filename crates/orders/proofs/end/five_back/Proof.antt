@@ -26,7 +26,7 @@ returns : tie.Need-returns
 returns c =
     let g = c .before .before .before .before .before .before .before .args in
     let e : g .a ≡ 0 = omega arith in
-    rw e (youngest-from (g .l) _ (g .n) (c .before .before .before .before .taken .ensures) (c .before .before .before .taken2 .ensures) (c .before .before .taken3 .ensures) (c .before .taken4 .ensures) (c .taken5 .ensures))
+    rw e (youngest-from (g .l) _ (g .n) (c .before .before .before .before .taken .ensures .0) (c .before .before .before .taken2 .ensures .0) (c .before .before .taken3 .ensures .0) (c .before .taken4 .ensures .0) (c .taken5 .ensures .0))
 
 sub-older-back : tie.Need-sub-older-back
 sub-older-back c = search needs

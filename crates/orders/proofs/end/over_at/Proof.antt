@@ -1,4 +1,5 @@
 -- `orders::end::over_at` meets its contract: the places of four are those of five, from the one after d on.
+use native.Mathlib.Omega.{arith}
 use Rattle.orders.proofs.EndingFive.{over-lt, over-passing}
 use borrow.Author.Needs.{needs}
 use Rattle.orders.proofs.end.over_at.Statement.{statement}
@@ -23,13 +24,13 @@ standing-requires : tie.Need-standing-requires
 standing-requires c κs =
     let g = c .before .args in
     let h = c .before .pre in
-    (h .0, h .1, over-lt (g .l) (g .d) (h .2) (h .3))
+    (h .0, h .1, over-lt (g .l) (g .d) (h .2) (omega (arith, h .3)))
 
 returns : tie.Need-returns
 returns c =
     let g = c .before .before .args in
     let h = c .before .before .pre in
-    over-passing (g .l) (g .d) (h .2) (h .3) (g .e) (c .standing .result) (c .standing .ensures)
+    over-passing (g .l) (g .d) (h .2) (omega (arith, h .3)) (g .e) (c .standing .result) (c .standing .ensures)
 
 pub over-at-spec : {M : Type 1} → statement M
 over-at-spec =

@@ -22,8 +22,8 @@ taken-requires-5 c κs = search needs
 returns : tie.Need-returns
 returns c =
     let g = c .before .before .before .before .before .args in
-    youngest-words (g .l) (g .five) _ _ _ _ _ (c .before .before .before .before .taken .ensures) (c .before .before .before .taken2 .ensures) (c .before .before .taken3 .ensures) (c .before .taken4 .ensures)
-    (c .taken5 .ensures)
+    youngest-words (g .l) (g .five) _ _ _ _ _ (c .before .before .before .before .taken .ensures .0) (c .before .before .before .taken2 .ensures .0) (c .before .before .taken3 .ensures .0) (c .before .taken4 .ensures .0)
+    (c .taken5 .ensures .0)
 
 pub youngest-left-spec : {M : Type 1} → statement M
 youngest-left-spec =

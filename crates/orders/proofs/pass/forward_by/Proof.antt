@@ -3,7 +3,7 @@ use mathlib.Core.Path.{_∙_}
 use Prim.Native.Nat.{_-_}
 use native.Mathlib.Omega.{arith}
 use Rattle.orders.proofs.Filling.{Fills, fills-start, fills-ranks, fills-step, fills-stuck, fills-end}
-use Rattle.orders.proofs.Nodes.{stop-ready}
+use Rattle.orders.proofs.Nodes.{stop-ready, stop-behind}
 use Rattle.orders.proofs.pass.forward_by.Statement.{statement}
 use Rattle.orders.proofs.pass.forward_by.Tie as tie
 
@@ -33,7 +33,12 @@ spread-requires c κs =
     let t = c .before .before .loop-test .taken in
     let s = stop-ready (a .kinds .now) (a .ages .now) (a .counts .now) (a .ku) (a .kl) (l .i) t (a .work .now) (p .end) (g .pre .0)
     (p .way) .0 in (
-      (rw (c .before .stop-at .ensures) s, omega (arith, g .pre .0 .room, l .inv .long, t)),
+      (
+        rw (c .before .stop-at .ensures) s,
+        omega (arith, g .pre .0 .room, l .inv .long, t),
+        λ k. stop-behind (a .kinds .now) (a .ages .now) (a .counts .now) (a .ku) (a .kl) (l .i) t (a .work .now) (g .pre .0)
+            (rw (c .before .stop-at .ensures) at k),
+      ),
       (
         (λ x h e. l .inv .empty (l .i) x (omega arith) h e),
         (
@@ -44,27 +49,21 @@ spread-requires c κs =
       ),
     )
 
-bare-requires : tie.Need-bare-requires Inv-loop μ-loop
-bare-requires c κs =
-    let l = c .before .before .before .before .before .before .before .loop in
-    let room = c .before .before .before .before .before .before .before .before .before .before .before .before .before .pre .0 .room in
-    omega (arith, room, l .inv .long, c .before .before .before .spread .ensures .long, c .before .before .before .before .before .before .loop-test .taken)
-
 same-length : tie.Need-same-length Inv-loop μ-loop
 same-length c =
-    let l = c .before .before .before .before .before .before .before .before .before .loop in
-    c .before .before .before .before .before .spread .ensures .long ∙ l .inv .long
+    let l = c .before .before .before .before .before .before .before .loop in
+    c .before .before .before .spread .ensures .0 .long ∙ l .inv .long
 
 returns : tie.Need-returns Inv-loop μ-loop
 returns c =
-    let g = c .before .before .before .before .before .before .before .before .before .before .before .before .before .before .before in
+    let g = c .before .before .before .before .before .before .before .before .before .before .before .before .before in
     let a = g .args in
-    let l = c .before .before .before .before .before .before .before .before .before .loop in
+    let l = c .before .before .before .before .before .before .before .loop in
     fills-stuck (a .kinds .now) (a .ages .now) (a .counts .now) (a .ku) (a .kl) (a .work .now) (g .pre .0) (l .i) (l .work)
-    (c .before .before .before .before .before .spread .last .0)
-    (c .before .before .before .before .before .before .before .before .loop-test .taken) (l .inv)
-    (rw (c .before .before .before .before .before .before .before .stop-at .ensures) at
-    (c .before .before .before .before .before .spread .ensures)) (rw (c .if1 .taken) at (c .before .bare .ensures))
+    (c .before .before .before .spread .last .0)
+    (c .before .before .before .before .before .before .loop-test .taken) (l .inv)
+    (rw (c .before .before .before .before .before .stop-at .ensures) at
+    (c .before .before .before .spread .ensures .0)) (rw (c .if1 .taken) at (c .before .before .before .spread .ensures .1))
 
 add-i : tie.Need-add-i Inv-loop μ-loop
 add-i c = omega arith
@@ -74,14 +73,14 @@ loop-less c = omega arith
 
 loop-again : tie.Need-loop-again Inv-loop μ-loop
 loop-again c =
-    let g = c .before .before .before .before .before .before .before .before .before .before .before .before .before .before .before in
+    let g = c .before .before .before .before .before .before .before .before .before .before .before .before .before in
     let a = g .args in
-    let l = c .before .before .before .before .before .before .before .before .before .loop in
+    let l = c .before .before .before .before .before .before .before .loop in
     fills-step (a .kinds .now) (a .ages .now) (a .counts .now) (a .ku) (a .kl) (a .work .now) (g .pre .0) (l .i) (l .work)
-    (c .before .before .before .before .before .spread .last .0)
-    (c .before .before .before .before .before .before .before .before .loop-test .taken) (l .inv)
-    (rw (c .before .before .before .before .before .before .before .stop-at .ensures) at
-    (c .before .before .before .before .before .spread .ensures)) (rw (c .if1 .left) at (c .before .bare .ensures))
+    (c .before .before .before .spread .last .0)
+    (c .before .before .before .before .before .before .loop-test .taken) (l .inv)
+    (rw (c .before .before .before .before .before .stop-at .ensures) at
+    (c .before .before .before .spread .ensures .0)) (rw (c .if1 .left) at (c .before .before .before .spread .ensures .1))
 
 same-length-2 : tie.Need-same-length-2 Inv-loop μ-loop
 same-length-2 c = c .before .loop .inv .long
@@ -103,7 +102,6 @@ forward-by-spec =
     loop-holds
     stop-at-requires
     spread-requires
-    bare-requires
     same-length
     returns
     add-i

@@ -1,33 +1,30 @@
--- `orders::reach::spread` meets its contract: each way of doing it does.
+-- `orders::reach::spread` meets its contract: each kind has its function, and a field that is no kind leads nowhere.
 use native.Mathlib.Omega.{arith}
+use Rattle.orders.proofs.Staying.{nowhere}
+use Rattle.orders.proofs.Touching.{unreached}
 use borrow.Author.Needs.{needs}
 use Rattle.orders.proofs.reach.spread.Statement.{statement}
 use Rattle.orders.proofs.reach.spread.Tie as tie
 
-spread-ranks-requires : tie.Need-spread-ranks-requires
-spread-ranks-requires c κs = search needs
+open-requires : tie.Need-open-requires
+open-requires c κs =
+    let h = c .before .before .before .before .pre in
+    ((h .0 .0, c .before .match .keys1, h .0 .1), (h .1 .0, λ x l m. h .1 .1 .0 x m .below))
+
+touch-requires : tie.Need-touch-requires
+touch-requires c κs =
+    let h = c .before .before .before .before .pre in
+    let k = c .before .match .keys2 in
+    ((h .0 .0, h .0 .1, h .0 .2 (omega (arith, k)), k), h .1)
+
+end-requires : tie.Need-end-requires
+end-requires c κs = search needs
 
 same-length : tie.Need-same-length
 same-length c = search needs
 
 returns : tie.Need-returns
 returns c = search needs
-
-open-requires : tie.Need-open-requires
-open-requires c κs =
-    let g = c .before .before .before .before .before .pre in
-    ((g .0 .0, c .before .match .keys1, g .0 .1), (g .1 .0, λ x l m. g .1 .1 .0 x m .below))
-
-touch-requires : tie.Need-touch-requires
-touch-requires c κs =
-    let g = c .before .before .before .before .before .pre in
-    ((g .0 .0, g .0 .1, omega (arith, c .before .before .if1 .left), c .before .match .keys2), (g .1 .0, g .1 .1 .0))
-
-end-requires : tie.Need-end-requires
-end-requires c κs = search needs
-
-spread-ranks-requires-2 : tie.Need-spread-ranks-requires-2
-spread-ranks-requires-2 c κs = search needs
 
 same-length-2 : tie.Need-same-length-2
 same-length-2 c = search needs
@@ -41,34 +38,26 @@ same-length-3 c = search needs
 returns-3 : tie.Need-returns-3
 returns-3 c = search needs
 
-same-length-4 : tie.Need-same-length-4
-same-length-4 c = search needs
-
 returns-4 : tie.Need-returns-4
-returns-4 c = search needs
-
-same-length-5 : tie.Need-same-length-5
-same-length-5 c = search needs
-
-returns-5 : tie.Need-returns-5
-returns-5 c = search needs
+returns-4 c =
+    let g = c .before .before .before in
+    let t = g .args .stop in (
+      unreached t (g .args .work .now) (g .args .g) (g .pre .1 .0)
+          (λ x r. nowhere t (r .rank) (r .leads .at) x (omega (arith, c .match .rest)) (r .leads .lands)),
+      g .pre .1 .0,
+    )
 
 pub spread-spec : {M : Type 1} → statement M
 spread-spec =
     tie.close
     (tie.spec
-    spread-ranks-requires
-    same-length
-    returns
     open-requires
     touch-requires
     end-requires
-    spread-ranks-requires-2
+    same-length
+    returns
     same-length-2
     returns-2
     same-length-3
     returns-3
-    same-length-4
-    returns-4
-    same-length-5
-    returns-5)
+    returns-4)

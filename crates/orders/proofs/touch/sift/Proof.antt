@@ -1,4 +1,7 @@
 -- `orders::touch::sift` meets its contract: the word that is put is the one that was read, under the mask.
+use mathlib.Core.Path.{ap}
+use Prim.Native.Nat.{ℕ}
+use lib.Bits.{bitAnd}
 use borrow.Author.Needs.{needs}
 use Rattle.orders.proofs.touch.sift.Statement.{statement}
 use Rattle.orders.proofs.touch.sift.Tie as tie
@@ -16,7 +19,9 @@ same-length : tie.Need-same-length
 same-length c = search needs
 
 returns : tie.Need-returns
-returns c = rw (c .before .before .before .before .word .ensures) at (c .before .before .put-word .ensures)
+returns c =
+    let g = c .before .before .before .before .before .before .before .args in
+    record { word = ap (λ (v : ℕ). bitAnd v (g .m)) (c .before .before .before .before .word .ensures); put = c .before .before .put-word .ensures }
 
 pub sift-spec : {M : Type 1} → statement M
 sift-spec = tie.close (tie.spec sub-word word-requires put-word-requires same-length returns)

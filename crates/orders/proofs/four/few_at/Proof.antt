@@ -1,9 +1,9 @@
--- `orders::end::few_at` meets its contract: the places of b are those of four below the missing nets.
+-- `orders::four::few_at` meets its contract: the places of b are those of four below the missing nets.
 use native.Mathlib.Omega.{arith}
 use Rattle.orders.proofs.EndingFew.{places-lt, few-stands}
 use borrow.Author.Needs.{needs}
-use Rattle.orders.proofs.end.few_at.Statement.{statement}
-use Rattle.orders.proofs.end.few_at.Tie as tie
+use Rattle.orders.proofs.four.few_at.Statement.{statement}
+use Rattle.orders.proofs.four.few_at.Tie as tie
 
 sub-standing : tie.Need-sub-standing
 sub-standing c = search needs
