@@ -1,19 +1,15 @@
--- A mark that is turned over changes no other, and each rank that a set can hold has a bit of its own.
-use mathlib.Core.Path.{_≡_, refl, sym, ap, _∙_}
-use mathlib.Core.Bool.{Bool, true, false, not}
+-- A rank's mark is a bit of a word of its gap, where a set can hold the rank; and bytes that are cleared one by one.
+use mathlib.Core.Path.{_≡_, refl, sym, _∙_}
+use mathlib.Core.Bool.{Bool, true, false}
 use mathlib.Core.List.{List}
-use Prim.Native.Nat.{ℕ, zero, suc, _+_, _*_, _/_, _%_, _^_, _≤_, _<_}
-use native.Mathlib.Nat.{one-mul}
+use Prim.Native.Nat.{ℕ, zero, suc, _+_, _/_, _%_, _^_, _≤_, _<_}
 use native.Mathlib.Omega.{arith}
 use lib.ListN.{length, getD, set, List·getD-eq-default}
 use lib.Seq.{getD-set-same, getD-set-other}
-use lib.Bits.{bitXor}
-use lib.Pow.{shl-exact}
 use lib.Dec.{eqb, ltb}
 use borrow.Author.Tests.{ltb-true, ltb-false, eqb-true, eqb-false}
-use Rattle.orders.specs.Sets.{stretch, held, slot, fourAt, wordAt, bit, marked, source, Written, Set}
-use Rattle.orders.proofs.Slots.{held-few, slot-below, slot-one}
-use Rattle.orders.proofs.Words.{bit-turned, bit-unturned, bit-zero}
+use Rattle.orders.specs.Sets.{held, slot, wordAt, bit, marked, source}
+use Rattle.orders.proofs.Slots.{held-few}
 
 pub not-both : {t : Bool} → t ≡ false → t ≡ true → ⊥
 not-both f e = let z : _≡_ {A = ℕ} 0 1 = cc in omega arith
@@ -49,41 +45,6 @@ marked-same s t g r f = go (held r) refl
     go true h = marked-bit t g r h ∙ f h ∙ sym (marked-bit s g r h)
     go false h = marked-none t g r h ∙ sym (marked-none s g r h)
 
--- turning a rank's bit over
-pub turn-set : (s : List ℕ) (g r : ℕ) (t : List ℕ) → held r ≡ true →
-    Written s g (slot r) (bitXor (wordAt s g (slot r)) (2 ^ (r % 24))) t → Set s g r (not (marked s g r)) t
-turn-set s g r t h w =
-    record {
-      long = w .long;
-      own = marked-bit t g r h ∙ ap (λ (v : ℕ). bit v (r % 24)) (w .own) ∙ bit-turned (wordAt s g (slot r)) (r % 24) ∙
-          ap not (sym (marked-bit s g r h));
-      others = λ y x l f. marked-same s t y x (λ m. other y x m f (eqb y g) (eqb (slot x) (slot r)) refl refl);
-    }
-  where
-    other : (y x : ℕ) → held x ≡ true → (y ≡ g → x ≡ r → ⊥) → (a b : Bool) → eqb y g ≡ a → eqb (slot x) (slot r) ≡ b →
-        bit (wordAt t y (slot x)) (x % 24) ≡ bit (wordAt s y (slot x)) (x % 24)
-    other y x m f false b ea eb =
-        ap (λ (v : ℕ). bit v (x % 24)) (w .others y (slot x) (slot-below x m) (λ e d. eqb-false y g ea e))
-    other y x m f true false ea eb =
-        ap (λ (v : ℕ). bit v (x % 24)) (w .others y (slot x) (slot-below x m) (λ e d. eqb-false (slot x) (slot r) eb d))
-    other y x m f true true ea eb =
-        let p : y ≡ g = eqb-true y g ea in
-        let q : slot x ≡ slot r = eqb-true (slot x) (slot r) eb in
-        rw (p, q) (ap (λ (v : ℕ). bit v (x % 24)) (w .own) ∙
-        bit-unturned (wordAt s g (slot r)) (r % 24) (x % 24) (λ e. f p (slot-one x r m h q e)))
-
--- as the code turns it
-pub turn-put : (s : List ℕ) (g r : ℕ) (t : List ℕ) (k w : ℕ) → held r ≡ true → k ≡ slot r → w ≡ wordAt s g k →
-    Written s g k (bitXor w (1 * 2 ^ (r % 24) % 4294967296)) t → Set s g r (not (marked s g r)) t
-turn-put s g r t k w h ek ew p =
-    let e : 1 * 2 ^ (r % 24) % 4294967296 ≡ 2 ^ (r % 24) = shl-exact 1 (r % 24) 32 (omega arith) (omega arith) ∙ one-mul (2 ^ (r % 24)) in
-    turn-set s g r t h (rw (e, ew, ek) at p)
-
--- a mark turned over where it is known
-pub set-turned : (s : List ℕ) (g r : ℕ) (v : Bool) (t : List ℕ) → Set s g r (not (marked s g r)) t → marked s g r ≡ v →
-    Set s g r (not v) t
-set-turned s g r v t h e = rw e at h
-
 -- the ranks before a node
 pub source-none : (s : List ℕ) (g r : ℕ) → g ≡ 0 → source s g r ≡ eqb r 0
 unfolding source
@@ -97,21 +58,6 @@ pub source-held : (s : List ℕ) (g r : ℕ) → source s g r ≡ true → held 
 unfolding source
 source-held s zero r e = held-few r (omega (arith, eqb-true r 0 e))
 source-held s (suc g) r e = marked-held s g r e
-
--- a mark that is there already
-pub set-already : (s : List ℕ) (g r : ℕ) (v : Bool) → marked s g r ≡ v → Set s g r v s
-set-already s g r v e = record { long = refl; own = e; others = λ h x l f. refl }
-
--- bytes that are 0 have no mark
-clear-word : (s : List ℕ) → ((i : ℕ) → getD s i 0 ≡ 0) → (g k : ℕ) → wordAt s g k ≡ 0
-unfolding wordAt fourAt
-clear-word s z g k =
-    let i : ℕ = stretch * g + 4 * k in
-    omega (arith, z i, z (i + 1), z (i + 2), z (i + 3))
-
-pub clear-empty : (s : List ℕ) → ((i : ℕ) → getD s i 0 ≡ 0) → (g x : ℕ) → marked s g x ≡ true → ⊥
-clear-empty s z g x e =
-    not-both (marked-bit s g x (marked-held s g x e) ∙ ap (λ (v : ℕ). bit v (x % 24)) (clear-word s z g (slot x)) ∙ bit-zero (x % 24)) e
 
 -- the first i bytes are 0, and one more is cleared
 pub clear-more : (s : List ℕ) (i : ℕ) → i < length s → ((j : ℕ) → j < i → getD s j 0 ≡ 0) → (j : ℕ) → j < i + 1 →

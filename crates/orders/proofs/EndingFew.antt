@@ -47,10 +47,10 @@ module _ (b a : ℕ) (ha : a < b) (hb : b ≤ 4) where
   count-four : 4 ≡ 4 - b + b
   count-four = omega arith
 
-  place-few : (r : ℕ) → r < fact b → placeOf (b - 1 - a) r ≡ 4 - b + atOf a b r
+  pub place-few : (r : ℕ) → r < fact b → placeOf (b - 1 - a) r ≡ 4 - b + atOf a b r
   place-few r h = ap₂ (λ (c d : ℕ). atOf c d r) age-four count-four ∙ at-tops (4 - b) a b r h
 
-  left-few : (r : ℕ) → r < fact b → leftOf (b - 1 - a) r ≡ lessOf a b r
+  pub left-few : (r : ℕ) → r < fact b → leftOf (b - 1 - a) r ≡ lessOf a b r
   left-few r h = ap₂ (λ (c d : ℕ). lessOf c d r) age-four count-four ∙ less-tops (4 - b) a b r h
 
   module _ (l : ℕ) (hl : l < 2 ^ b) where

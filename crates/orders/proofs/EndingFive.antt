@@ -8,14 +8,14 @@ use native.Mathlib.Omega.{arith}
 use lib.Bits.{bitAnd, bitOr, or-lt}
 use lib.Dec.{leb, ltb}
 use lib.Pow.{shl-exact, shl-lt, shr-lt, pow-pos, pow-mono}
-use borrow.Author.Tests.{leb-true, leb-false, ltb-true, ltb-false, le-leb, lt-leb, eq-eqb, ne-eqb}
+use borrow.Author.Tests.{leb-true, leb-false, ltb-true, ltb-false, le-leb, lt-leb}
 use Rattle.orders.specs.declared.end.Five.{Five}
 use Rattle.orders.specs.Ranks.{fact, under, spared, atOf, lessOf}
 use Rattle.orders.specs.Sets.{bit}
 use Rattle.orders.specs.Four.{placeOf, leftOf, Left, Pulls, Leaves, Gone, comes, nth, within, overAt, underAt, Passing, Piece}
 use Rattle.orders.proofs.Bits.{not-both}
 use Rattle.orders.proofs.Ranks.{at-youngest, less-youngest, at-older, less-older, under-above, under-below, spared-above, spared-below}
-use Rattle.orders.proofs.Words.{bit-and, bit-or, bit-zero, bit-shl, bit-shl-low, bit-shr, bit-mod, bit-high, bit-upper, bit-lower}
+use Rattle.orders.proofs.Words.{bit-and, bit-or, bit-set, bit-unset, bit-zero, bit-shl, bit-shl-low, bit-shr, bit-mod, bit-high, bit-upper, bit-lower}
 use Rattle.orders.proofs.FourSets.{either, or-first, or-second, and-both, and-true, left-lt, place-lt}
 
 -- one of five tests passes
@@ -63,15 +63,10 @@ or-five a b c d e i =
 -- a word that is taken where k is in l
 module _ (l k w : ℕ) where
   pub taken-in : l / 2 ^ k % 2 ≡ 1 → (i : ℕ) → bit w i ≡ bit l k && bit w i
-  unfolding bit
-  taken-in h i = rw (eq-eqb (l / 2 ^ k % 2) 1 h)
-
-  not-in : (l / 2 ^ k % 2 ≡ 1 → ⊥) → bit l k ≡ false
-  unfolding bit
-  not-in h = ne-eqb (l / 2 ^ k % 2) 1 h
+  taken-in h i = rw (bit-set l k h)
 
   pub taken-out : (l / 2 ^ k % 2 ≡ 1 → ⊥) → (i : ℕ) → bit 0 i ≡ bit l k && bit w i
-  taken-out h i = bit-zero i ∙ sym (ap (λ (t : Bool). t && bit w i) (not-in h))
+  taken-out h i = bit-zero i ∙ sym (ap (λ (t : Bool). t && bit w i) (bit-unset l k h))
 
 -- the youngest of five, and another
 pub at-first : (r : ℕ) → atOf 0 5 r ≡ r / 24

@@ -9,12 +9,12 @@ use lib.ListN.{length, getD, take}
 use borrow.Author.Tests.{eqb-true, eq-eqb}
 use Rattle.orders.specs.Plan.{Step, steps}
 use Rattle.orders.specs.Ranks.{RankOf, Way}
-use Rattle.orders.specs.Sets.{ranks, marked, source, Exactly, Empty, Some, Clear}
+use Rattle.orders.specs.Sets.{ranks, marked, source, Exactly, Empty, Some, Loses}
 use Rattle.orders.specs.Stops.{stopOf}
 use Rattle.orders.specs.Passes.{Reached, Given, Filled, Passable, Forward}
 use Rattle.orders.proofs.Ranks.{fact-six}
 use Rattle.orders.proofs.Slots.{held-below}
-use Rattle.orders.proofs.Bits.{source-held, clear-empty}
+use Rattle.orders.proofs.Bits.{source-held}
 use Rattle.orders.proofs.Spreading.{last-or}
 use Rattle.orders.proofs.Ways.{way-start, way-none, steps-length}
 use Rattle.orders.proofs.Nodes.{way-on, way-back, stop-ready, rank-below}
@@ -32,26 +32,37 @@ unfolding source
 source-way ku kl ss zero s r f l e = rw (eqb-true r 0 e) (way-start ku kl)
 source-way ku kl ss (suc g) s r f l e = f .sound g r (omega arith) l e
 
--- after i nodes: their gaps are filled, the others empty, and some way leads so far
+-- after i nodes: their gaps are filled, and some way leads so far
 pub record Fills (ks xs cs : List ℕ) (ku kl : ℕ) (s₀ : List ℕ) (i : ℕ) (s : List ℕ) : Type 0 where
   pub long : length s ≡ length s₀
   pub within : i ≤ length ks
   pub filled : Filled ku kl (steps ks xs cs) i s
-  pub empty : (g x : ℕ) → i ≤ g → x < ranks → marked s g x ≡ true → ⊥
   pub passes : Passable ku kl (take i (steps ks xs cs))
 
 module _ (ks xs cs : List ℕ) (ku kl : ℕ) (s₀ : List ℕ) (given : Given ks xs cs s₀ ku kl) where
   abbrev ss : List Step
   ss = steps ks xs cs
 
-  pub fills-start : Clear s₀ → Fills ks xs cs ku kl s₀ 0 s₀
-  fills-start z =
+  pub fills-start : Fills ks xs cs ku kl s₀ 0 s₀
+  fills-start =
       record {
         long = refl;
         within = omega arith;
         filled = record { sound = λ g x l. absurd (omega arith); full = λ g x l. absurd (omega arith) };
-        empty = λ g x l h e. clear-empty s₀ z g x e;
         passes = record { end = 0; way = way-start ku kl };
+      }
+
+  -- what stood in the next gap is cleared
+  pub fills-cleared : (i : ℕ) (s t : List ℕ) → Fills ks xs cs ku kl s₀ i s → Loses s i (λ x. ⊥) t → Fills ks xs cs ku kl s₀ i t
+  fills-cleared i s t f c =
+      record {
+        long = c .long ∙ f .long;
+        within = f .within;
+        filled = record {
+          sound = λ g x m h e. f .filled .sound g x m h (sym (c .others g x h (λ q. omega arith)) ∙ e);
+          full = λ g x m w. c .others g x (rank-below ks xs cs ku kl (suc g) s₀ x given w) (λ q. omega arith) ∙ f .filled .full g x m w;
+        };
+        passes = f .passes;
       }
 
   -- the ranks before the next node are those of the nets that it finds open
@@ -102,7 +113,6 @@ module _ (ks xs cs : List ℕ) (ku kl : ℕ) (s₀ : List ℕ) (given : Given ks
           long = a .long ∙ f .long;
           within = omega arith;
           filled = filled-more;
-          empty = λ g x m h e. f .empty g x (omega arith) h (sym (a .others g x h (λ q. omega arith)) ∙ e);
           passes = rw (add-one i) (record { end = o .rank; way = now-way (o .rank) (o .within) (o .is) });
         }
 

@@ -1,6 +1,6 @@
--- Words obey the rule of the tables of orders of four nets where four computed tests pass.
+-- Words obey the rule of the tables of orders of four nets where five computed tests pass.
 --
--- Where a function lends the constant, its rule is `tables-right _ refl tt tt tt tt` under `unfolding` of the tests here, `every`, `image`, `gather`,
+-- Where a function lends the constant, its rule is `tables-right _ refl tt tt tt tt tt` under `unfolding` of the tests here, `every`, `image`, `gather`,
 -- `atOf`, `lessOf`, `under`, `spared`, `fact`, `pick`, `bit`, `fits`, `limits` and `met`.
 use mathlib.Core.Path.{_≡_}
 use mathlib.Core.Bool.{Bool}
@@ -26,6 +26,9 @@ standAt t e q = eqb (getD t (512 + 16 * e + q) 0) (gather (λ i. bit q (placeOf 
 unfoldable pub legalAt : (t : List ℕ) (ku kl b : ℕ) → Bool
 legalAt t ku kl b = eqb (getD t (576 + 32 * ku + 8 * kl + b) 0) (gather (λ p. fits ku kl (suc p) b) b)
 
+unfoldable pub spotAt : (t : List ℕ) (e r : ℕ) → Bool
+spotAt t e r = eqb (getD t (704 + 24 * e + r) 0) (8 * placeOf e r + leftOf e r)
+
 unfoldable pub rests : List ℕ → Bool
 rests t = every (λ e. every (λ p. every (restAt t e p) 64) 4) 4
 
@@ -38,9 +41,12 @@ stands t = every (λ e. every (standAt t e) 16) 4
 unfoldable pub legals : List ℕ → Bool
 legals t = every (λ ku. every (λ kl. every (legalAt t ku kl) 8) 4) 4
 
-pub tables-right : (t : List ℕ) → length t ≡ 704 → T (rests t) → T (backs t) → T (stands t) → T (legals t) → Tables t
-unfolding rests backs stands legals restAt backAt standAt legalAt
-tables-right t n r b s l =
+unfoldable pub spots : List ℕ → Bool
+spots t = every (λ e. every (spotAt t e) 24) 4
+
+pub tables-right : (t : List ℕ) → length t ≡ 800 → T (rests t) → T (backs t) → T (stands t) → T (legals t) → T (spots t) → Tables t
+unfolding rests backs stands legals spots restAt backAt standAt legalAt spotAt
+tables-right t n r b s l o =
     record {
       long = n;
       rest = λ e p x he hp hx. eqb→eq (getD t (64 * e + x) 0 / 2 ^ (8 * p) % 256) (pieceLeft e p x)
@@ -53,4 +59,6 @@ tables-right t n r b s l =
       legal = λ ku kl b hu hl hb. eqb→eq (getD t (576 + 32 * ku + 8 * kl + b) 0) (gather (λ p. fits ku kl (suc p) b) b)
           (every-at (legalAt t ku kl) 8 (every-at (λ kl. every (legalAt t ku kl) 8) 4
           (every-at (λ ku. every (λ kl. every (legalAt t ku kl) 8) 4) 4 l ku hu) kl hl) b hb);
+      spot = λ e r he hr. eqb→eq (getD t (704 + 24 * e + r) 0) (8 * placeOf e r + leftOf e r)
+          (every-at (spotAt t e) 24 (every-at (λ e. every (spotAt t e) 24) 4 o e he) r hr);
     }

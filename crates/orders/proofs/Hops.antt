@@ -14,9 +14,8 @@ use Rattle.rules.proofs.Fits.{Fits, fits→, →fits}
 use Rattle.orders.specs.Plan.{step}
 use Rattle.orders.specs.Ranks.{capacity, fact, atOf, lessOf, hopOf}
 use Rattle.orders.specs.Sets.{ranks, held}
-use Rattle.orders.specs.Stops.{hopAt, told, Sound}
+use Rattle.orders.specs.Stops.{hopAt, Sound}
 use Rattle.orders.specs.declared.rank.Stop.{Stop}
-use Rattle.orders.specs.declared.rank.Landing.the-variants.{To, Nowhere}
 use Rattle.orders.proofs.Ranks.{rank-lt, less-lt, fact-five, fact-six, fact-of-five}
 use Rattle.orders.proofs.Slots.{held-few, held-middle}
 
@@ -80,19 +79,6 @@ hop-unmet ku kl (suc zero) a b r p h n = no-keep (eqb p (atOf a b r)) (fits ku k
 hop-unmet ku kl (suc (suc zero)) a b r p h n = no-keep (eqb p (atOf a b r)) (fits ku kl (suc p) b) (lessOf a b r) n
 hop-unmet ku kl (suc (suc (suc k))) a b r p h n = refl
 
-pub hop-unknown : (ku kl k a b r p : ℕ) → 3 ≤ k → hopOf ku kl (step k a b) r p ≡ none
-unfolding hopOf
-hop-unknown ku kl zero a b r p h = absurd (omega arith)
-hop-unknown ku kl (suc zero) a b r p h = absurd (omega arith)
-hop-unknown ku kl (suc (suc zero)) a b r p h = absurd (omega arith)
-hop-unknown ku kl (suc (suc (suc k))) a b r p h = refl
-
--- what fits has room in two streets of three tracks
-pub fit-small : (ku kl p b : ℕ) → fits ku kl (suc p) b ≡ true → ku ≤ 3 → kl ≤ 3 → (p ≤ 5) × (b ≤ 6)
-fit-small ku kl p b e hu hl =
-    let f : Fits ku kl (suc p) b = fits-fits ku kl (suc p) b e in
-    omega arith
-
 -- what a hop that is made says
 pub record Made (ku kl k a b r p x : ℕ) : Type 0 where
   pub kind : k < 3
@@ -100,7 +86,7 @@ pub record Made (ku kl k a b r p x : ℕ) : Type 0 where
   pub left-open : left (kindIn k) b ≤ ku + kl
   pub lands : (0 < k → a < b) → r < fact b → x < fact (left (kindIn k) b)
 
-kept : {A : Type 0} (t : Bool) (x y : A) → keep t x ≡ some y → (t ≡ true) × (x ≡ y)
+pub kept : {A : Type 0} (t : Bool) (x y : A) → keep t x ≡ some y → (t ≡ true) × (x ≡ y)
 unfolding keep
 kept true x y e = (refl, (cc))
 kept false x y e = let z : _≡_ {A = ℕ} 0 1 = cc in absurd (omega arith)
@@ -197,14 +183,6 @@ hop-middle ku kl (suc (suc (suc k))) a b r p x hu hl h m e c = let z : _≡_ {A 
 
 pub stop-held : (t : Stop) (r p x : ℕ) → Sound t → r < fact (t .count) → held r ≡ true → hopAt t r p ≡ some x → held x ≡ true
 stop-held t r p x h = hop-held (t .ku) (t .kl) (t .kind) (t .age) (t .count) r p x (h .upper) (h .lower) (h .few) (h .touched)
-
-pub told-to : (o : Option ℕ) (x : ℕ) → To x ≡ told o → o ≡ some x
-told-to none x e = let z : _≡_ {A = ℕ} 0 1 = cc in absurd (omega arith)
-told-to (some y) x e = cc
-
-pub told-nowhere : (o : Option ℕ) → Nowhere ≡ told o → o ≡ none
-told-nowhere none e = refl
-told-nowhere (some y) e = let z : _≡_ {A = ℕ} 0 1 = cc in absurd (omega arith)
 
 pub none-some : {A : Type 0} {o : Option ℕ} {x : ℕ} → o ≡ none → o ≡ some x → A
 none-some e f = let z : _≡_ {A = ℕ} 0 1 = cc in absurd (omega arith)

@@ -39,6 +39,7 @@ module _ (ks xs cs : List ℕ) (ku kl : ℕ) (s t : List ℕ) where
   pruned-kept g f p =
       let e = steps-length ks xs cs in
       record {
+        ways = λ i x l h m. f .sound i x (omega arith) h (p .was i x l h m);
         sound = p .sound;
         full = λ i x l w a. p .full i x l (rank-below ks xs cs ku kl (suc i) s x g w) (f .full i x (omega arith) w) a;
       }

@@ -1,7 +1,6 @@
 pub mod Ranks
 pub mod Slots
 pub mod Words
-pub mod Fours
 pub mod Hops
 pub mod Bits
 pub mod Gains
@@ -20,6 +19,7 @@ pub mod OpeningMarks
 pub mod OpeningSlots
 pub mod OpeningBack
 pub mod OpeningSteps
+pub mod Entering
 pub mod FourSets
 pub mod FourTables
 pub mod EndingFew

@@ -4,7 +4,6 @@ use mathlib.Core.Bool.{Bool, true, false, _&&_, _||_}
 use mathlib.Core.List.{List}
 use mathlib.Core.Logic.{_⊎_, inl, inr, ⊎-elim}
 use Prim.Native.Nat.{ℕ, zero, suc, _+_, _-_, _*_, _/_, _%_, _≤_, _<_}
-use native.Mathlib.Nat.{mul-add-div-right, div-eq-of-lt, add-zero}
 use native.Mathlib.Numerals.{add-one}
 use native.Mathlib.Omega.{arith}
 use lib.ListN.{length}
@@ -17,7 +16,7 @@ use Rattle.rules.proofs.Fits.{Fits}
 use Rattle.orders.specs.Ranks.{fact}
 use Rattle.orders.specs.Sets.{ranks, slots, held, slot, wordAt, bit, marked, Written, Loses}
 use Rattle.orders.specs.Opening.{Places, Joined, Entered}
-use Rattle.orders.proofs.Ranks.{fact-pos}
+use Rattle.orders.proofs.Ranks.{rank-digit}
 use Rattle.orders.proofs.Slots.{held-few, held-middle, slot-few, slot-middle, slot-below}
 use Rattle.orders.proofs.Bits.{not-both, marked-bit, marked-held}
 use Rattle.orders.proofs.Hops.{fits-fits, fitting}
@@ -76,13 +75,39 @@ module _ (s : List ℕ) (g n : ℕ) (t : List ℕ) (v : ℕ → ℕ) (long : len
           let d = from x m h p in
           cut-own x m h ∙ ap (λ (b : Bool). b && bit (v (slot x)) (x % 24)) e ∙ d
 
--- a mark of slot 0
-low-mark : (s : List ℕ) (g i : ℕ) → i < 24 → marked s g i ≡ bit (wordAt s g 0) i
-low-mark s g i l =
-    let e : i % 24 ≡ i = omega arith in
-    let d : slot i ≡ 0 = slot-few i (omega arith) ∙ omega arith in
-    let c : bit (wordAt s g (slot i)) (i % 24) ≡ bit (wordAt s g 0) i = rw (d, e) in
-    marked-bit s g i (held-few i (omega arith)) ∙ c
+-- the marks of a gap by words
+module _ (s : List ℕ) (g : ℕ) where
+  -- of slot 0
+  pub low-mark : (i : ℕ) → i < 24 → marked s g i ≡ bit (wordAt s g 0) i
+  low-mark i l =
+      let e : i % 24 ≡ i = omega arith in
+      let d : slot i ≡ 0 = slot-few i (omega arith) ∙ omega arith in
+      let c : bit (wordAt s g (slot i)) (i % 24) ≡ bit (wordAt s g 0) i = rw (d, e) in
+      marked-bit s g i (held-few i (omega arith)) ∙ c
+
+  -- of five nets, the youngest at p
+  pub fifth-mark : (p r : ℕ) → p < 5 → r < 24 → marked s g (p * 24 + r) ≡ bit (wordAt s g p) r
+  fifth-mark p r hp hr =
+      let i : ℕ = p * 24 + r in
+      let e : i % 24 ≡ r = omega arith in
+      let d : slot i ≡ p = slot-few i (omega arith) ∙ omega arith in
+      let c : bit (wordAt s g (slot i)) (i % 24) ≡ bit (wordAt s g p) r = rw (d, e) in
+      marked-bit s g i (held-few i (omega arith)) ∙ c
+
+  -- of six nets, the youngest at q
+  sixth-mark : (q r k : ℕ) → r < 120 → 240 ≤ q * 120 + r → q * 120 + r < 480 → (q * 120 + r) / 24 - 5 ≡ k →
+      marked s g (q * 120 + r) ≡ bit (wordAt s g k) (r % 24)
+  sixth-mark q r k hr l h d =
+      let i : ℕ = q * 120 + r in
+      let e : i % 24 ≡ r % 24 = omega arith in
+      let c : bit (wordAt s g (slot i)) (i % 24) ≡ bit (wordAt s g k) (r % 24) = rw (slot-middle i (omega arith) ∙ d, e) in
+      marked-bit s g i (held-middle i l h) ∙ c
+
+  pub sixth-two : (r : ℕ) → r < 120 → marked s g (2 * 120 + r) ≡ bit (wordAt s g (5 + r / 24)) (r % 24)
+  sixth-two r h = sixth-mark 2 r (5 + r / 24) h (omega arith) (omega arith) (omega arith)
+
+  sixth-three : (r : ℕ) → r < 120 → marked s g (3 * 120 + r) ≡ bit (wordAt s g (10 + r / 24)) (r % 24)
+  sixth-three r h = sixth-mark 3 r (10 + r / 24) h (omega arith) (omega arith) (omega arith)
 
 -- up to three others
 module _ (s : List ℕ) (g ku kl b m f z : ℕ) (hb : b ≤ 3) (ef : f ≡ fact b)
@@ -98,8 +123,7 @@ module _ (s : List ℕ) (g ku kl b m f z : ℕ) (hb : b ≤ 3) (ef : f ≡ fact 
       let i : ℕ = q * f + r in
       let c : (q * f ≤ 3 * f) = go q hq in
       let hi : q * f + r < 24 = omega arith in
-      let d : (q * f + r) / fact b ≡ q = ap (λ (n : ℕ). (q * n + r) / fact b) ef ∙ mul-add-div-right (fact-pos b) q r ∙
-      ap (λ (n : ℕ). q + n) (div-eq-of-lt (rw (← ef) hr)) ∙ add-zero q in
+      let d : (q * f + r) / fact b ≡ q = ap (λ (n : ℕ). (q * n + r) / fact b) ef ∙ rank-digit q b r (rw (← ef) hr) in
       bit-and (wordAt s (suc g) 0) m (q * f + r) ∙
       ap (λ (a : Bool). a && bit m (q * f + r))
       (sym (low-mark s (suc g) (q * f + r) hi) ∙ ap (λ (n : ℕ). marked s (suc g) (q * n + r)) ef) ∙
@@ -175,19 +199,11 @@ module _ (s : List ℕ) (g ku kl x y z : ℕ) (hu : ku ≤ 3) (hl : kl ≤ 3) (b
     (ex : x ≡ pick (fits ku kl 2 5) (wordAt s (suc g) 1) 0) (ey : y ≡ pick (fits ku kl 3 5) (wordAt s (suc g) 2) 0)
     (ez : z ≡ pick (fits ku kl 4 5) (wordAt s (suc g) 3) 0) (t : List ℕ)
     (put : Written s g 0 (bitAnd (wordAt s g 0) (bitOr (bitOr x y) z)) t) where
-  fifth-mark : (p r : ℕ) → p < 5 → r < 24 → marked s (suc g) (p * 24 + r) ≡ bit (wordAt s (suc g) p) r
-  fifth-mark p r hp hr =
-      let i : ℕ = p * 24 + r in
-      let e : i % 24 ≡ r = omega arith in
-      let d : slot i ≡ p = slot-few i (omega arith) ∙ omega arith in
-      let c : bit (wordAt s (suc g) (slot i)) (i % 24) ≡ bit (wordAt s (suc g) p) r = rw (d, e) in
-      marked-bit s (suc g) i (held-few i (omega arith)) ∙ c
-
   fifth-bit : (w p r : ℕ) → p < 5 → r < 24 → w ≡ pick (fits ku kl (suc p) 5) (wordAt s (suc g) p) 0 →
       bit w r ≡ fits ku kl (suc p) 5 && marked s (suc g) (p * 24 + r)
   fifth-bit w p r hp hr e =
       ap (λ (v : ℕ). bit v r) e ∙ picked (fits ku kl (suc p) 5) (wordAt s (suc g) p) r ∙
-      ap (λ (v : Bool). fits ku kl (suc p) 5 && v) (sym (fifth-mark p r hp hr))
+      ap (λ (v : Bool). fits ku kl (suc p) 5 && v) (sym (fifth-mark s (suc g) p r hp hr))
 
   fifth-to : (r : ℕ) → r < 24 → bit (bitOr (bitOr x y) z) r ≡ true → Entered ku kl 4 s (suc g) r
   unfolding fact
@@ -275,26 +291,11 @@ module _ (s : List ℕ) (g : ℕ) where
           ap₂ bitAnd (ec ∙ f .left g k (omega arith) (λ e. omega arith))
           (ap₂ bitOr (ea ∙ other (5 + k) (omega arith)) (eb ∙ other (10 + k) (omega arith)))
 
-  -- a mark of six nets, the youngest at q
-  sixth-mark : (q r k : ℕ) → r < 120 → 240 ≤ q * 120 + r → q * 120 + r < 480 → (q * 120 + r) / 24 - 5 ≡ k →
-      marked s (suc g) (q * 120 + r) ≡ bit (wordAt s (suc g) k) (r % 24)
-  sixth-mark q r k hr l h d =
-      let i : ℕ = q * 120 + r in
-      let e : i % 24 ≡ r % 24 = omega arith in
-      let c : bit (wordAt s (suc g) (slot i)) (i % 24) ≡ bit (wordAt s (suc g) k) (r % 24) = rw (slot-middle i (omega arith) ∙ d, e) in
-      marked-bit s (suc g) i (held-middle i l h) ∙ c
-
-  sixth-two : (r : ℕ) → r < 120 → marked s (suc g) (2 * 120 + r) ≡ bit (wordAt s (suc g) (5 + r / 24)) (r % 24)
-  sixth-two r h = sixth-mark 2 r (5 + r / 24) h (omega arith) (omega arith) (omega arith)
-
-  sixth-three : (r : ℕ) → r < 120 → marked s (suc g) (3 * 120 + r) ≡ bit (wordAt s (suc g) (10 + r / 24)) (r % 24)
-  sixth-three r h = sixth-mark 3 r (10 + r / 24) h (omega arith) (omega arith) (omega arith)
-
   sixth-to : (r : ℕ) → r < 120 → bit (nextTwo s g (r / 24)) (r % 24) ≡ true → Entered 3 3 5 s (suc g) r
   unfolding fact
   sixth-to r h e =
-      ⊎-elim (λ d. record { at = 2; fit = fitting 3 3 3 6 (record { low = omega arith; high = omega arith; upper = omega arith; lower = omega arith; sum = omega arith }); kept = sixth-two r h ∙ d })
-      (λ d. record { at = 3; fit = fitting 3 3 4 6 (record { low = omega arith; high = omega arith; upper = omega arith; lower = omega arith; sum = omega arith }); kept = sixth-three r h ∙ d })
+      ⊎-elim (λ d. record { at = 2; fit = fitting 3 3 3 6 (record { low = omega arith; high = omega arith; upper = omega arith; lower = omega arith; sum = omega arith }); kept = sixth-two s (suc g) r h ∙ d })
+      (λ d. record { at = 3; fit = fitting 3 3 4 6 (record { low = omega arith; high = omega arith; upper = omega arith; lower = omega arith; sum = omega arith }); kept = sixth-three s (suc g) r h ∙ d })
       (or-some (bit (wordAt s (suc g) (5 + r / 24)) (r % 24)) (bit (wordAt s (suc g) (10 + r / 24)) (r % 24))
       (sym (bit-or (wordAt s (suc g) (5 + r / 24)) (wordAt s (suc g) (10 + r / 24)) (r % 24)) ∙ e))
 
@@ -309,9 +310,9 @@ module _ (s : List ℕ) (g : ℕ) where
       go zero l c = absurd (omega (arith, l .lower))
       go (suc zero) l c = absurd (omega (arith, l .lower))
       go (suc (suc zero)) l c =
-          first-or (bit (wordAt s (suc g) (5 + r / 24)) (r % 24)) (bit (wordAt s (suc g) (10 + r / 24)) (r % 24)) (sym (sixth-two r h) ∙ c)
+          first-or (bit (wordAt s (suc g) (5 + r / 24)) (r % 24)) (bit (wordAt s (suc g) (10 + r / 24)) (r % 24)) (sym (sixth-two s (suc g) r h) ∙ c)
       go (suc (suc (suc zero))) l c =
-          second-or (bit (wordAt s (suc g) (5 + r / 24)) (r % 24)) (bit (wordAt s (suc g) (10 + r / 24)) (r % 24)) (sym (sixth-three r h) ∙ c)
+          second-or (bit (wordAt s (suc g) (5 + r / 24)) (r % 24)) (bit (wordAt s (suc g) (10 + r / 24)) (r % 24)) (sym (sixth-three s (suc g) r h) ∙ c)
       go (suc (suc (suc (suc q)))) l c = absurd (omega (arith, l .upper))
 
   pub sixth-loses : (k : ℕ) (t : List ℕ) → 5 ≤ k → ((x : ℕ) → x < ranks → marked s g x ≡ true → x < fact 5) → Cut s g k t →

@@ -4,7 +4,7 @@ use mathlib.Core.Bool.{Bool, true, false}
 use mathlib.Core.List.{List}
 use mathlib.Core.Option.{some}
 use Prim.Native.Nat.{ℕ, suc, _+_, _*_, _/_, _%_, _≤_}
-use native.Mathlib.Nat.{mod-lt, div-add-mod', mul-add-div-right, mul-add-mod-self-right, div-eq-of-lt, mod-eq-of-lt, add-zero}
+use native.Mathlib.Nat.{mod-lt, div-add-mod', mul-add-mod-self-right, mod-eq-of-lt}
 use native.Mathlib.Omega.{arith}
 use Rattle.rules.specs.Street.{fits}
 use Rattle.orders.specs.declared.rank.Stop.{Stop}
@@ -13,7 +13,7 @@ use Rattle.orders.specs.Sets.{held, marked, source, Empty, Exactly, Lose
 use Rattle.orders.specs.Stops.{hopAt, Sound}
 use Rattle.orders.specs.Passes.{Reached, Onward}
 use Rattle.orders.specs.Opening.{Opened, Entered}
-use Rattle.orders.proofs.Ranks.{fact-pos}
+use Rattle.orders.proofs.Ranks.{fact-pos, rank-digit}
 use Rattle.orders.proofs.Slots.{held-below}
 use Rattle.orders.proofs.Bits.{marked-held, source-held}
 use Rattle.orders.proofs.Hops.{unfit, hop-begins, hop-unbegun, stop-held, none-some, same-some}
@@ -23,13 +23,13 @@ use Rattle.orders.proofs.OpeningBits.{both}
 
 -- the net that a B begins, at place p
 module _ (t : Stop) (kind : t .kind ≡ 0) (r p : ℕ) where
-  abbrev fit : Bool
+  abbrev pub fit : Bool
   fit = fits (t .ku) (t .kl) (suc p) (suc (t .count))
 
-  begun : fit ≡ true → hopAt t r p ≡ some (p * fact (t .count) + r)
+  pub begun : fit ≡ true → hopAt t r p ≡ some (p * fact (t .count) + r)
   begun f = hop-begins (t .ku) (t .kl) (t .kind) (t .age) (t .count) r p kind f
 
-  begun-only : (x : ℕ) → hopAt t r p ≡ some x → (fit ≡ true) × (p * fact (t .count) + r ≡ x)
+  pub begun-only : (x : ℕ) → hopAt t r p ≡ some x → (fit ≡ true) × (p * fact (t .count) + r ≡ x)
   begun-only x e = go fit refl
     where
       go : (v : Bool) → fit ≡ v → (fit ≡ true) × (p * fact (t .count) + r ≡ x)
@@ -59,8 +59,7 @@ module _ (t : Stop) (s : List ℕ) (g : ℕ) (sound : Sound t) (kind : t .kind �
           let p = r .leads .at in
           let (a, e) = begun-only t kind (r .rank) p x (r .leads .lands) in
           let h = stop-held t (r .rank) p x sound (r .below) (source-held s g (r .rank) (r .from)) (r .leads .lands) in
-          let q : x / unit ≡ p = ap (λ (n : ℕ). n / unit) (sym e) ∙ mul-add-div-right (fact-pos (t .count)) p (r .rank) ∙
-          ap (λ (n : ℕ). p + n) (div-eq-of-lt (r .below)) ∙ add-zero p in
+          let q : x / unit ≡ p = ap (λ (n : ℕ). n / unit) (sym e) ∙ rank-digit p (t .count) (r .rank) (r .below) in
           let m : x % unit ≡ r .rank = ap (λ (n : ℕ). n % unit) (sym e) ∙ mul-add-mod-self-right p unit (r .rank) ∙ mod-eq-of-lt (r .below) in
           o .own x h ∙ rw (q, m, a, r .from)
 

@@ -7,19 +7,21 @@ use mathlib.Core.Option.{some}
 use Prim.Native.Nat.{ℕ, suc, _+_, _≤_, _<_}
 use native.Mathlib.Numerals.{add-one}
 use native.Mathlib.Omega.{arith}
-use lib.ListN.{length, take, drop, set, length-set, drop-of-length-le}
+use lib.ListN.{length, getD, take, drop, set, length-set, drop-of-length-le}
 use lib.Seq.{take-suc-set, append-snoc, drop-cons}
 use lib.Dec.{eqb, ltb}
 use borrow.Author.Tests.{eqb-true, eqb-false, ltb-true, ltb-false}
 use Rattle.rules.specs.Street.{Earlier, here, there}
 use Rattle.orders.specs.Plan.{Step, step, steps}
 use Rattle.orders.specs.Ranks.{hopOf, hops, Way, Ahead}
-use Rattle.orders.specs.Sets.{marked}
+use Rattle.orders.specs.Sets.{ranks, marked}
 use Rattle.orders.specs.Stops.{stopOf, stepOf, hopAt}
-use Rattle.orders.specs.Passes.{Misses, Least, Given, Kept, Passable, First}
-use Rattle.orders.proofs.Hops.{same-some}
+use Rattle.orders.specs.Passes.{Led, Onward, Least, Given, Kept, Passable, First}
+use Rattle.orders.proofs.Slots.{held-below}
+use Rattle.orders.proofs.Bits.{marked-held}
+use Rattle.orders.proofs.Hops.{hop-made, same-some}
 use Rattle.orders.proofs.Ways.{hops-nil, hops-start, hops-first, first-hops, way-start, passes-ahead, steps-length, steps-at}
-use Rattle.orders.proofs.Nodes.{way-on, ahead-back}
+use Rattle.orders.proofs.Nodes.{way-on, way-back, ahead-back, stop-ready, rank-below}
 
 module _ (ku kl : ℕ) where
   pub first-none : (r : ℕ) → First ku kl [] r []
@@ -77,10 +79,21 @@ module _ (ks xs cs : List ℕ) (ku kl : ℕ) (s : List ℕ) (given : Given ks xs
     lands-kept : (q y : ℕ) → hopAt (stopOf ks xs cs ku kl i) r q ≡ some y → Ahead ku kl (drop (suc i) ss) y → marked s i y ≡ true
     lands-kept q y e a = kept .full i y inside (way-on ks xs cs ku kl i l r y (k .way) (record { at = q; lands = e })) a
 
-    pub never-stuck : ((q : ℕ) → Misses (stopOf ks xs cs ku kl i) s i r q) → ⊥
-    never-stuck m =
+    pub leads-on : Onward (stopOf ks xs cs ku kl i) s i r
+    leads-on =
         let (y, h, a) = ahead-back ks xs cs ku kl i l r (k .ahead) in
-        m (h .at) y (h .lands) (lands-kept (h .at) y (h .lands) a)
+        let w = way-on ks xs cs ku kl i l r y (k .way) h in
+        record { next = y; within = rank-below ks xs cs ku kl (suc i) s y given w; leads = h; kept = kept .full i y inside w a }
+
+    pub known-kind : getD ks i 0 < 3
+    known-kind = hop-made ku kl (getD ks i 0) (getD xs i 0) (getD cs i 0) r (leads-on .leads .at) (leads-on .next) (leads-on .leads .lands) .kind
+
+    -- a hop made each mark
+    pub marks-led : (x : ℕ) → marked s i x ≡ true → Led (stopOf ks xs cs ku kl i) x
+    marks-led x m =
+        let n : x < ranks = omega (arith, held-below x (marked-held s i x m)) in
+        let (q, v, h) = way-back ks xs cs ku kl i l x (kept .ways i x inside n m) in
+        record { rank = q; below = stop-ready ks xs cs ku kl i l s q given v .1 .below; leads = h }
 
     pub picks-step : (p x : ℕ) → length ks ≤ 512 → Least (stopOf ks xs cs ku kl i) s i r p x →
         Picks ks xs cs ku kl (set ps i p) (i + 1) x

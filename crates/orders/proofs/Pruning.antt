@@ -1,22 +1,19 @@
--- Ranks of a gap looked at one by one are left exactly where the next node leads on; gap by gap, from the last, so that all the rest can be passed.
+-- Ranks are left exactly where the next node leads on, gap by gap, from the last, so that all the rest can be passed.
 use mathlib.Core.Path.{_≡_, refl, sym, ap, _∙_}
 use mathlib.Core.Bool.{Bool, true, false}
 use mathlib.Core.List.{List}
-use Prim.Native.Nat.{ℕ, suc, _+_, _≤_, _<_}
+use Prim.Native.Nat.{ℕ, suc, _≤_, _<_}
 use native.Mathlib.Omega.{arith}
 use lib.ListN.{length, getD, drop, drop-of-length-le}
 use lib.Dec.{eqb}
 use borrow.Author.Tests.{eqb-true, eqb-false}
-use Rattle.orders.specs.declared.rank.Stop.{Stop}
 use Rattle.orders.specs.Plan.{Step, steps}
 use Rattle.orders.specs.Ranks.{RankOf, Ahead}
-use Rattle.orders.specs.Sets.{ranks, marked, source, Set, Loses}
+use Rattle.orders.specs.Sets.{ranks, marked, source, Loses}
 use Rattle.orders.specs.Stops.{stopOf}
-use Rattle.orders.specs.Passes.{Onward, Reached, Misses, Least, Given, Filled, Pruned}
+use Rattle.orders.specs.Passes.{Onward, Reached, Given, Filled, Pruned}
 use Rattle.orders.proofs.Slots.{held-below}
-use Rattle.orders.proofs.Bits.{not-both, marked-held, source-gap}
-use Rattle.orders.proofs.Gains.{loses-none, loses-map, loses-one, loses-join}
-use Rattle.orders.proofs.Spreading.{last-or}
+use Rattle.orders.proofs.Bits.{marked-held, source-gap}
 use Rattle.orders.proofs.Ways.{ahead-none, steps-length}
 use Rattle.orders.proofs.Nodes.{way-on, way-back, ahead-on, ahead-back, stop-ready, rank-below}
 
@@ -27,53 +24,6 @@ at-or {P} h g l p q = go (eqb h g) refl
     go : (b : Bool) → eqb h g ≡ b → P
     go true e = p (eqb-true h g e)
     go false e = q (omega (arith, eqb-false h g e))
-
--- one rank r of gap g, with the marks of gap h, the next, to land on
-module _ (s : List ℕ) (g h r : ℕ) (t : Stop) (eh : h ≡ suc g) where
-  pub rank-absent : marked s g r ≡ false → Loses s g (λ x. x ≡ r → Onward t s (suc g) x) s
-  rank-absent f = loses-none s g (λ x. x ≡ r → Onward t s (suc g) x) (λ x e m. absurd (not-both (rw m f) e))
-
-  pub rank-goes : (p x : ℕ) → Least t s h r p x → Loses s g (λ x. x ≡ r → Onward t s (suc g) x) s
-  rank-goes p x l =
-      let m = l .lands in
-      let o : Onward t s h r =
-      record { next = x; within = m .within; leads = record { at = p; lands = m .lands }; kept = m .kept } in
-      let n : Onward t s (suc g) r = rw eh at o in
-      loses-none s g (λ x. x ≡ r → Onward t s (suc g) x) (λ x e m. rw m n)
-
-  pub rank-stuck : (u : List ℕ) → ((q : ℕ) → Misses t s h r q) → Set s g r false u → Loses s g (λ x. x ≡ r → Onward t s (suc g) x) u
-  rank-stuck u m a =
-      loses-one s g r (Onward t s (suc g)) u (λ o. let n : Onward t s h r = rw eh o in m (n .leads .at) (n .next) (n .leads .lands)
-      (n .kept)) a
-
--- the ranks of gap g below k are looked at
-module _ (s : List ℕ) (g : ℕ) (t : Stop) where
-  pub ranks-start : Loses s g (λ x. x < 0 → Onward t s (suc g) x) s
-  ranks-start = loses-none s g (λ x. x < 0 → Onward t s (suc g) x) (λ x e l. absurd (omega arith))
-
-  pub ranks-step : (k : ℕ) (u v : List ℕ) → Loses s g (λ x. x < k → Onward t s (suc g) x) u →
-      Loses u g (λ x. x ≡ k → Onward t u (suc g) x) v →
-      Loses s g (λ x. x < k + 1 → Onward t s (suc g) x) v
-  ranks-step k u v a b =
-      loses-map s g (λ x. (x < k → Onward t s (suc g) x) × (x ≡ k → Onward t u (suc g) x)) (λ x. x < k + 1 → Onward t s (suc g) x) v
-      (λ x l e p h. last-or (Onward t s (suc g) x) x k h (λ m. back x (p .1 m)) (p .0))
-      (λ x l e q. ((λ h. q (omega arith)), (λ m. fore x (q (omega arith)))))
-      (loses-join s g (λ x. x < k → Onward t s (suc g) x) (λ x. x ≡ k → Onward t u (suc g) x) u v a b)
-    where
-      same : (x : ℕ) → x < ranks → marked u (suc g) x ≡ marked s (suc g) x
-      same x l = a .others (suc g) x l (λ e. omega arith)
-
-      back : (x : ℕ) → Onward t u (suc g) x → Onward t s (suc g) x
-      back x o =
-          record { next = o .next; within = o .within; leads = o .leads; kept = sym (same (o .next) (o .within)) ∙ o .kept }
-
-      fore : (x : ℕ) → Onward t s (suc g) x → Onward t u (suc g) x
-      fore x o = record { next = o .next; within = o .within; leads = o .leads; kept = same (o .next) (o .within) ∙ o .kept }
-
-  pub ranks-end : (k : ℕ) (u : List ℕ) → ((x : ℕ) → x < ranks → marked s g x ≡ true → x < k) →
-      Loses s g (λ x. x < k → Onward t s (suc g) x) u → Loses s g (Onward t s (suc g)) u
-  ranks-end k u f a =
-      loses-map s g (λ x. x < k → Onward t s (suc g) x) (Onward t s (suc g)) u (λ x l e p. p (f x l e)) (λ x l e o h. o) a
 
 -- the gaps from that before node i on are pruned, those before it are as they were
 pub record Prunes (ks xs cs : List ℕ) (ku kl : ℕ) (s₀ : List ℕ) (i : ℕ) (s : List ℕ) : Type 0 where

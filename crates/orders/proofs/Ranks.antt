@@ -35,6 +35,10 @@ rank-lt p b r hp hr =
     let h : suc p * fact b ≤ suc b * fact b = mul-le-mul-right (fact b) (omega arith) in
     omega (arith, suc-mul p (fact b))
 
+-- whose first digit is p
+pub rank-digit : (p b r : ℕ) → r < fact b → (p * fact b + r) / fact b ≡ p
+rank-digit p b r h = mul-add-div-right (fact-pos b) p r ∙ ap (λ d. p + d) (div-eq-of-lt h) ∙ add-zero p
+
 fact-more : (k b : ℕ) → fact b ≤ fact (k + b)
 fact-more zero b = rw (zero-add b) (omega arith)
 fact-more (suc k) b = rw (suc-add k b) (omega (arith, fact-more k b, fact-grows (k + b)))
@@ -136,8 +140,7 @@ pub order-put : (p y r : ℕ) (ys : List ℕ) → r < fact (length ys) →
     orderOf (y ∷ ys) (p * fact (length ys) + r) ≡ put p y (orderOf ys r)
 unfolding orderOf
 order-put p y r ys h =
-    let q : (p * fact (length ys) + r) / fact (length ys) ≡ p =
-    mul-add-div-right (fact-pos (length ys)) p r ∙ ap (λ d. p + d) (div-eq-of-lt h) ∙ add-zero p in
+    let q : (p * fact (length ys) + r) / fact (length ys) ≡ p = rank-digit p (length ys) r h in
     let m : (p * fact (length ys) + r) % fact (length ys) ≡ r = mul-add-mod-self-right p (fact (length ys)) r ∙ mod-eq-of-lt h in
     ap₂ (λ (d l : ℕ). put d y (orderOf ys l)) q m
 

@@ -1,4 +1,4 @@
--- A touched net has one position: a node chooses it where the limits hold and it leads to a marked rank, and is stuck otherwise.
+-- A touched net has one position: where a node leads on, it is there.
 use mathlib.Core.Path.{_≡_, refl, sym, ap, _∙_, subst}
 use mathlib.Core.Bool.{Bool, true, false, _&&_}
 use mathlib.Core.List.{List}
@@ -6,20 +6,17 @@ use mathlib.Core.Option.{none, some}
 use Prim.Native.Nat.{ℕ, zero, suc, _≤_, _<_}
 use native.Mathlib.Omega.{arith}
 use lib.Dec.{eqb}
-use borrow.Author.Tests.{eqb-true, eqb-false, eq-eqb, ne-eqb}
+use borrow.Author.Tests.{eqb-true, eqb-false, ne-eqb}
 use Rattle.rules.specs.Basic.{keep}
 use Rattle.rules.specs.Street.{fits}
 use Rattle.orders.specs.declared.rank.Stop.{Stop}
-use Rattle.orders.specs.declared.pass.Choice.{Choice}
-use Rattle.orders.specs.declared.pass.Choice.the-variants.{Go, Stuck}
 use Rattle.orders.specs.Plan.{step}
-use Rattle.orders.specs.Ranks.{capacity, fact, atOf, lessOf, hopOf}
-use Rattle.orders.specs.Sets.{ranks, marked}
+use Rattle.orders.specs.Ranks.{fact, atOf, lessOf, hopOf}
+use Rattle.orders.specs.Sets.{marked, Loses}
 use Rattle.orders.specs.Stops.{hopAt, Sound}
-use Rattle.orders.specs.Passes.{Misses, goes, Chosen}
-use Rattle.orders.proofs.Ranks.{at-lt}
-use Rattle.orders.proofs.Bits.{not-both}
-use Rattle.orders.proofs.Hops.{stop-lands, none-some, same-some}
+use Rattle.orders.specs.Passes.{Onward, Misses, Least}
+use Rattle.orders.proofs.Hops.{kept, stop-lands, none-some}
+use Rattle.orders.proofs.Gains.{loses-map}
 
 -- the rank after a node of kind 1 or 2
 abbrev pub after : (kind a b r : ℕ) → ℕ
@@ -27,13 +24,13 @@ after zero a b r = r
 after (suc zero) a b r = r
 after (suc (suc k)) a b r = lessOf a b r
 
-pub kept : (kind a b r : ℕ) → kind ≡ 1 → r ≡ after kind a b r
-kept kind a b r e = rw e
+pub after-touch : (kind a b r : ℕ) → kind ≡ 1 → r ≡ after kind a b r
+after-touch kind a b r e = rw e
 
-pub gone : (kind a b r : ℕ) → 0 < kind → (kind ≡ 1 → ⊥) → lessOf a b r ≡ after kind a b r
-gone zero a b r h n = absurd (omega arith)
-gone (suc zero) a b r h n = absurd (n refl)
-gone (suc (suc k)) a b r h n = refl
+pub after-end : (kind a b r : ℕ) → 0 < kind → (kind ≡ 1 → ⊥) → lessOf a b r ≡ after kind a b r
+after-end zero a b r h n = absurd (omega arith)
+after-end (suc zero) a b r h n = absurd (n refl)
+after-end (suc (suc k)) a b r h n = refl
 
 module _ (t : Stop) (s : List ℕ) (g r : ℕ) (sound : Sound t) (touched : 0 < t .kind) (known : t .kind < 3) (low : r < fact (t .count)) where
   place : ℕ
@@ -58,49 +55,26 @@ module _ (t : Stop) (s : List ℕ) (g r : ℕ) (sound : Sound t) (touched : 0 < 
   unfolding keep
   elsewhere q h x e k = let z : hopAt t r q ≡ none = hops-there q ∙ rw (ne-eqb q place h) in none-some z e
 
-  module _ (p : ℕ) (is : p ≡ atOf (t .age) (t .count) r) where
-    here : p ≡ place
-    unfolding place
-    here = is
+  -- the position that leads on is the net's one, and the least
+  pub stays : (o : Onward t s g r) (p x : ℕ) → p ≡ o .leads .at → x ≡ after (t .kind) (t .age) (t .count) r → Least t s g r p x
+  unfolding place next
+  stays o p x ep ex = at-place (eqb p place) refl
+    where
+      e : hopAt t r p ≡ some (o .next)
+      e = subst (λ i. hopAt t r i ≡ some (o .next)) (sym ep) (o .leads .lands)
 
-    pub stuck : fits (t .ku) (t .kl) (suc p) (t .count) ≡ false → Chosen t s g r Stuck
-    unfolding keep
-    stuck f q x e k = by-test (eqb q place) refl
-      where
-        by-test : (b : Bool) → eqb q place ≡ b → ⊥
-        by-test true d =
-            let w : q ≡ p = eqb-true q place d ∙ sym here in
-            let z : hopAt t r q ≡ none = hops-there q ∙ rw (d, w, f) in none-some z e
-        by-test false d = let z : hopAt t r q ≡ none = hops-there q ∙ rw d in none-some z e
-
-    pub chosen : (x : ℕ) → x ≡ after (t .kind) (t .age) (t .count) r → fits (t .ku) (t .kl) (suc p) (t .count) ≡ true
-        → (c : Choice) → c ≡ goes (marked s g x) p x → Chosen t s g r c
-    unfolding keep next
-    chosen x d f c e = by-test (marked s g x) refl
-      where
-        lands : hopAt t r p ≡ some x
-        lands = hops-there p ∙ rw (eq-eqb p place here, f, d)
-
-        by-test : (m : Bool) → marked s g x ≡ m → Chosen t s g r c
-        by-test true m =
-            let l = stop-lands t r p x sound low lands in
-            let go : c ≡ Go p x = e ∙ ap (λ b. goes b p x) m in
-            subst (Chosen t s g r) (sym go)
-            (record {
-              low = l .0;
-              lands = record { lands = lands; within = l .1; kept = m };
-              first = λ q h. elsewhere q (λ z. omega (arith, z, here, h));
-            })
-        by-test false m =
-            let go : c ≡ Stuck = e ∙ ap (λ b. goes b p x) m in
-            subst (Chosen t s g r) (sym go) (λ q y z k. miss q y z k (eqb q place) refl)
-          where
-            miss : (q y : ℕ) → hopAt t r q ≡ some y → marked s g y ≡ true → (b : Bool) → eqb q place ≡ b → ⊥
-            miss q y z k true w =
-                let v : q ≡ p = eqb-true q place w ∙ sym here in
-                let u : hopAt t r p ≡ some y = subst (λ i. hopAt t r i ≡ some y) v z in
-                not-both m (subst (λ i. marked s g i ≡ true) (sym (same-some lands u)) k)
-            miss q y z k false w = elsewhere q (eqb-false q place w) y z k
+      at-place : (v : Bool) → eqb p place ≡ v → Least t s g r p x
+      at-place true d =
+          let q : p ≡ place = eqb-true p place d in
+          let n : x ≡ o .next =
+          ex ∙ kept (eqb p place && fits (t .ku) (t .kl) (suc p) (t .count)) next (o .next) (sym (hops-there p) ∙ e) .1 in
+          let h : hopAt t r p ≡ some x = e ∙ ap some (sym n) in
+          record {
+            low = stop-lands t r p x sound low h .0;
+            lands = record { lands = h; within = stop-lands t r p x sound low h .1; kept = ap (marked s g) n ∙ o .kept };
+            first = λ j l. elsewhere j (λ z. omega (arith, z, q, l));
+          }
+      at-place false d = absurd (elsewhere p (eqb-false p place d) (o .next) e (o .kept))
 
 -- a field that is no kind leads nowhere
 pub nowhere : (t : Stop) (r q x : ℕ) → 3 ≤ t .kind → hopAt t r q ≡ some x → ⊥
@@ -112,3 +86,8 @@ nowhere t r q x h e = go (t .kind) h e
     go (suc zero) l e = omega arith
     go (suc (suc zero)) l e = omega arith
     go (suc (suc (suc k))) l e = none-some refl e
+
+pub nowhere-onward : (t : Stop) (s : List ℕ) (g : ℕ) (u : List ℕ) → 3 ≤ t .kind → Loses s g (λ x. ⊥) u → Loses s g (Onward t s (suc g)) u
+nowhere-onward t s g u h f =
+    loses-map s g (λ x. ⊥) (Onward t s (suc g)) u (λ x l e p. absurd p)
+    (λ x l e o. nowhere t x (o .leads .at) (o .next) h (o .leads .lands)) f

@@ -66,7 +66,7 @@ module _ (ku kl : ℕ) where
       let (us, z, i, j) = last-hop ss s y x qs k in
       (p ∷ us, z, first-hops t ss r z y p us h i, j)
 
-  hop-last : (ss : List Step) (s : Step) (r x y p : ℕ) (ps : List ℕ) → hops ku kl ss r ps ≡ some y → hopOf ku kl s y p ≡ some x →
+  pub hop-last : (ss : List Step) (s : Step) (r x y p : ℕ) (ps : List ℕ) → hops ku kl ss r ps ≡ some y → hopOf ku kl s y p ≡ some x →
       hops ku kl (ss ++ (s ∷ [])) r (ps ++ (p ∷ [])) ≡ some x
   hop-last [] s r x y p ps e h =
       let (w, m) = hops-nil r y ps e in

@@ -10,7 +10,7 @@ use lib.Seq.{getD-set-same, getD-set-other}
 use lib.Bits.{bitAnd, bitOr, bitXor, differ, and-shr, or-shr, xor-shr, and-step, or-step, xor-step, shifted-even, or-shifted}
 use lib.Pow.{pow-pos, pow-lt, pow-mono, pow-add, shl-shr, shr-shr, split, high}
 use lib.Dec.{eqb, ltb}
-use borrow.Author.Tests.{ltb-true, ltb-false, eqb-false}
+use borrow.Author.Tests.{ltb-true, ltb-false, eqb-false, eq-eqb, ne-eqb}
 use Rattle.orders.specs.Sets.{stretch, slots, fourAt, wordAt, bit, Written}
 
 -- two digits are one of four pairs
@@ -64,6 +64,16 @@ module _ (a b i : ℕ) where
       let y : ℕ = b / 2 ^ i in
       ap (λ (d : ℕ). eqb (d % 2) 1) (xor-shr a b i) ∙
       combined differ turned (omega arith, refl) (omega arith, refl) (omega arith, refl) (omega arith, refl) (bitXor x y) (bitXor (x / 2) (y / 2)) x y (xor-step x y)
+
+-- a bit as it is tested
+module _ (w i : ℕ) where
+  pub bit-set : w / 2 ^ i % 2 ≡ 1 → bit w i ≡ true
+  unfolding bit
+  bit-set h = eq-eqb (w / 2 ^ i % 2) 1 h
+
+  pub bit-unset : (w / 2 ^ i % 2 ≡ 1 → ⊥) → bit w i ≡ false
+  unfolding bit
+  bit-unset h = ne-eqb (w / 2 ^ i % 2) 1 h
 
 -- shifts
 pub bit-shr : (w k i : ℕ) → bit (w / 2 ^ k) i ≡ bit w (k + i)

@@ -60,13 +60,14 @@ abbrev pub pieceLeft : (e p x : ℕ) → ℕ
 pieceLeft e p x = image (λ m. leftOf e (6 * p + m)) x 6
 
 -- the words of the tables: in byte p of word x what is left of a piece x where it is the one of p; what leads back; who stands where;
--- where the net of a node may stand, of b that are open there
+-- where the net of a node may stand, of b that are open there; a net's place in an order and the rank of the others
 pub record Tables (t : List ℕ) : Type 0 where
-  pub long : length t ≡ 704
+  pub long : length t ≡ 800
   pub rest : (e p x : ℕ) → e < 4 → p < 4 → x < 64 → getD t (64 * e + x) 0 / 2 ^ (8 * p) % 256 ≡ pieceLeft e p x
   pub back : (e y : ℕ) → e < 4 → y < 64 → getD t (256 + 64 * e + y) 0 ≡ gather (λ i. bit y (leftOf e i)) 24
   pub stand : (e q : ℕ) → e < 4 → q < 16 → getD t (512 + 16 * e + q) 0 ≡ gather (λ i. bit q (placeOf e i)) 24
   pub legal : (ku kl b : ℕ) → ku < 4 → kl < 4 → b < 8 → getD t (576 + 32 * ku + 8 * kl + b) 0 ≡ gather (λ p. fits ku kl (suc p) b) b
+  pub spot : (e r : ℕ) → e < 4 → r < 24 → getD t (704 + 24 * e + r) 0 ≡ 8 * placeOf e r + leftOf e r
 
 -- l is the set of the places where the net of a node may stand, of b that are open there
 pub record Legal (ku kl b l : ℕ) : Type 0 where

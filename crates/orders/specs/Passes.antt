@@ -1,6 +1,6 @@
 -- What the passes over the sets of ranks ensure: which ranks are marked after each, and which positions are picked.
 use mathlib.Core.Path.{_≡_}
-use mathlib.Core.Bool.{true, Bool, false}
+use mathlib.Core.Bool.{true}
 use mathlib.Core.List.{List}
 use mathlib.Core.Logic.{_⊎_}
 use mathlib.Core.Option.{some}
@@ -8,10 +8,6 @@ use Prim.Native.Nat.{ℕ, suc, _*_, _<_, _≤_}
 use lib.ListN.{length, take, drop}
 use Rattle.rules.specs.Street.{Earlier}
 use Rattle.orders.specs.declared.rank.Stop.{Stop}
-use Rattle.orders.specs.declared.rank.Landing.{Landing}
-use Rattle.orders.specs.declared.rank.Landing.the-variants.{To, Nowhere}
-use Rattle.orders.specs.declared.pass.Choice.{Choice}
-use Rattle.orders.specs.declared.pass.Choice.the-variants.{Go, Stuck}
 use Rattle.orders.specs.declared.pass.Positions.{Positions}
 use Rattle.orders.specs.Plan.{Step, Steps, steps}
 use Rattle.orders.specs.Ranks.{capacity, fact, hops, Way, Ahead}
@@ -22,6 +18,12 @@ use Rattle.orders.specs.Stops.{hopAt}
 pub record Leads (t : Stop) (r x : ℕ) : Type 0 where
   pub at : ℕ
   pub lands : hopAt t r at ≡ some x
+
+-- the stop leads to rank x from a rank of the nets that it finds open
+pub record Led (t : Stop) (x : ℕ) : Type 0 where
+  pub rank : ℕ
+  pub below : rank < fact (t .count)
+  pub leads : Leads t rank x
 
 -- the stop leads from a rank before node g to rank x
 pub record Reached (t : Stop) (s : List ℕ) (g x : ℕ) : Type 0 where
@@ -47,24 +49,11 @@ pub record Lands (t : Stop) (s : List ℕ) (g r p x : ℕ) : Type 0 where
 abbrev pub Misses : Stop → List ℕ → (g r p : ℕ) → Type 0
 Misses t s g r p = (x : ℕ) → hopAt t r p ≡ some x → marked s g x ≡ true → ⊥
 
-abbrev pub Landed : Stop → List ℕ → (g r p : ℕ) → Landing → Type 0
-Landed t s g r p (To x) = Lands t s g r p x
-Landed t s g r p Nowhere = Misses t s g r p
-
 -- p is the least position that leads from rank r to a marked rank of gap g
 pub record Least (t : Stop) (s : List ℕ) (g r p x : ℕ) : Type 0 where
   pub low : p < capacity
   pub lands : Lands t s g r p x
   pub first : (q : ℕ) → q < p → Misses t s g r q
-
--- position p and rank x, by a test
-abbrev pub goes : Bool → (p x : ℕ) → Choice
-goes true p x = Go p x
-goes false p x = Stuck
-
-abbrev pub Chosen : Stop → List ℕ → (g r : ℕ) → Choice → Type 0
-Chosen t s g r (Go p x) = Least t s g r p x
-Chosen t s g r Stuck = (q : ℕ) → Misses t s g r q
 
 -- what the passes are given: three lists of one length that hold steps, bytes for a gap after each, the tracks of two streets
 pub record Given (kinds ages counts work : List ℕ) (ku kl : ℕ) : Type 0 where
@@ -102,6 +91,7 @@ pub record Pruned (ku kl : ℕ) (ss : List Step) (s t : List ℕ) : Type 0 where
 
 -- the marks are the ranks of ways that lead on through all the steps
 pub record Kept (ku kl : ℕ) (ss : List Step) (s : List ℕ) : Type 0 where
+  pub ways : (g x : ℕ) → g < length ss → x < ranks → marked s g x ≡ true → Way ku kl (take (suc g) ss) x
   pub sound : (g x : ℕ) → g < length ss → x < ranks → marked s g x ≡ true → Ahead ku kl (drop (suc g) ss) x
   pub full : (g x : ℕ) → g < length ss → Way ku kl (take (suc g) ss) x → Ahead ku kl (drop (suc g) ss) x → marked s g x ≡ true
 

@@ -6,7 +6,7 @@ use mathlib.Core.List.{List, [], _∷_}
 use Prim.Native.Nat.{ℕ, suc, _<_, _≤_}
 use lib.ListN.{length, getD}
 use Rattle.rules.specs.Basic.{cut, tabulate}
-use Rattle.rules.specs.Row.{before, Kind, B, M, E, Node, node}
+use Rattle.rules.specs.Row.{before, B, M, E, Node, node}
 use Rattle.rules.specs.Street.{kind}
 use Rattle.rules.specs.Sheet.{code, kindIn}
 use Rattle.rules.specs.Judgement.{left}

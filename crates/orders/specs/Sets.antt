@@ -2,7 +2,7 @@
 use mathlib.Core.Path.{_≡_}
 use mathlib.Core.Bool.{Bool, true, false, _&&_, _||_}
 use mathlib.Core.List.{List}
-use Prim.Native.Nat.{ℕ, zero, suc, _+_, _-_, _*_, _/_, _%_, _^_, _<_, _≤_}
+use Prim.Native.Nat.{ℕ, zero, suc, _+_, _-_, _*_, _/_, _%_, _^_, _<_}
 use lib.ListN.{length, getD}
 use lib.Dec.{eqb, ltb, leb}
 use Rattle.rules.specs.Basic.{pick}
@@ -52,17 +52,6 @@ pub record Written (s : List ℕ) (g k w : ℕ) (t : List ℕ) : Type 0 where
   pub long : length t ≡ length s
   pub own : wordAt t g k ≡ w
   pub others : (h j : ℕ) → j < slots → (h ≡ g → j ≡ k → ⊥) → wordAt t h j ≡ wordAt s h j
-
--- the bytes have gap g, and its set can hold rank r
-pub record Holds (s : List ℕ) (g r : ℕ) : Type 0 where
-  pub gap : stretch * suc g ≤ length s
-  pub rank : held r ≡ true
-
--- t is s with the mark v at rank r of gap g
-pub record Set (s : List ℕ) (g r : ℕ) (v : Bool) (t : List ℕ) : Type 0 where
-  pub long : length t ≡ length s
-  pub own : marked t g r ≡ v
-  pub others : (h x : ℕ) → x < ranks → (h ≡ g → x ≡ r → ⊥) → marked t h x ≡ marked s h x
 
 -- t is s with exactly the ranks of P marked in gap g
 pub record Exactly (s : List ℕ) (g : ℕ) (P : ℕ → Type 0) (t : List ℕ) : Type 0 where

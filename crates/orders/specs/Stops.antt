@@ -1,13 +1,11 @@
 -- What the code's stops, hops and places say of ranks.
 use mathlib.Core.Path.{_≡_}
 use mathlib.Core.List.{List}
-use mathlib.Core.Option.{Option, none, some}
-use Prim.Native.Nat.{ℕ, _+_, _-_, _*_, _/_, _%_, _^_, _<_, _≤_}
+use mathlib.Core.Option.{Option}
+use Prim.Native.Nat.{ℕ, _+_, _*_, _<_, _≤_}
 use lib.ListN.{getD}
 use Rattle.orders.specs.declared.rank.Stop.{Stop}
 use Rattle.orders.specs.declared.rank.Place.{Place}
-use Rattle.orders.specs.declared.rank.Landing.{Landing}
-use Rattle.orders.specs.declared.rank.Landing.the-variants.{To, Nowhere}
 use Rattle.orders.specs.Plan.{Step, step}
 use Rattle.orders.specs.Sets.{ranks}
 use Rattle.orders.specs.Ranks.{capacity, fact, under, spared, atOf, lessOf, hopOf}
@@ -24,11 +22,6 @@ stopOf kinds ages counts ku kl i =
 abbrev pub hopAt : Stop → (r p : ℕ) → Option ℕ
 hopAt t r p = hopOf (t .ku) (t .kl) (stepOf t) r p
 
--- a transition as the code's answer
-abbrev pub told : Option ℕ → Landing
-told none = Nowhere
-told (some x) = To x
-
 -- a stop that ranks can be led past: not too many nets are open, a touched net is one of them, streets have at most three tracks
 pub record Sound (t : Stop) : Type 0 where
   pub few : t .count ≤ capacity
@@ -41,20 +34,12 @@ pub record Located (a b r : ℕ) (p : Place) : Type 0 where
   pub at : p .at ≡ atOf a b r
   pub rest : p .rest ≡ lessOf a b r
 
--- a net among b older ones and the youngest, which has q above it, where o is the net's place among the older
-pub record Beside (q b : ℕ) (o p : Place) : Type 0 where
+-- a net among older ones and the youngest, which has q above it, where o is the net's place among the older and u the orders of one fewer
+pub record Beside (q u : ℕ) (o p : Place) : Type 0 where
   pub at : p .at ≡ under q (o .at)
-  pub rest : p .rest ≡ spared q (o .at) * fact (b - 1) + o .rest
+  pub rest : p .rest ≡ spared q (o .at) * u + o .rest
 
 pub record Factorial (n f : ℕ) : Type 0 where
   pub value : f ≡ fact n
   pub pos : 0 < f
   pub most : f ≤ ranks
-
--- two bits for each order of four nets: where the net with e elders stands
-abbrev pub PlacesOfFour : (e w : ℕ) → Type 0
-PlacesOfFour e w = (i : ℕ) → i < 24 → w / 2 ^ (2 * i) % 4 ≡ atOf (3 - e) 4 i
-
--- three bits for each order of half h % 2 of them: the rank that is left without the net with h / 2 elders
-abbrev pub RestsOfFour : (h w : ℕ) → Type 0
-RestsOfFour h w = (j : ℕ) → j < 12 → w / 2 ^ (3 * j) % 8 ≡ lessOf (3 - h / 2) 4 (12 * (h % 2) + j)

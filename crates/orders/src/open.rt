@@ -153,7 +153,7 @@ fn unopen_sixth(work: &mut [u8], g: usize)
 }
 
 // Leaves no rank of gap g.
-fn clear(work: &mut [u8], g: usize)
+pub(crate) fn clear(work: &mut [u8], g: usize)
     requires { ⌜ stretch * suc g ≤ length (now work) ⌝ }
     ensures { λ _. ⌜ Loses (now (work .entry)) g (λ x. ⊥) (now (work .exit)) ⌝ }
 {

@@ -1,54 +1,33 @@
-// The router's three passes over the sets of ranks: forward, back to prune, and forward to pick.
+// The router's passes over the sets of ranks, forward and back to prune, and what its last pass asks them.
 use crate::end::unend;
-use crate::four::TABLES;
+use crate::open::clear;
 use crate::open::unopen;
-use crate::rank::CAPACITY;
-use crate::rank::Landing;
+use crate::rank::Place;
 use crate::rank::Stop;
 use crate::rank::factorial;
-use crate::rank::fit;
-use crate::rank::hop;
-use crate::rank::locate;
 use crate::reach::spread;
-use crate::set::is_marked;
-use crate::set::unmark;
 use crate::touch::prune_touched;
+use crate::word::word;
 ghost use mathlib.Core.Path.{_≡_};
 ghost use mathlib.Core.Bool.{true};
 ghost use Prim.Native.Nat.{ℕ, suc, _*_, _≤_, _<_};
 ghost use lib.ListN.{length};
 ghost use Rattle.orders.specs.Plan.{steps};
-ghost use Rattle.orders.specs.Ranks.{fact};
-ghost use Rattle.orders.specs.Sets.{ranks, stretch, marked, Clear, Loses};
+ghost use Rattle.orders.specs.Ranks.{capacity, fact, RankOf};
+ghost use Rattle.orders.specs.Sets.{stretch, bit, marked, Loses};
 ghost use Rattle.orders.specs.Stops.{Sound, stopOf};
 ghost use Rattle.orders.specs.Four.{Tables};
 ghost use Rattle.orders.specs.Masks.{Sources};
-ghost use Rattle.orders.specs.Passes.{Onward, Reached, Landed, goes, Chosen, Given, Forward, Filled, Passable, Pruned, Kept, Picked};
-
-// The position that is taken at a node, from 0, and the rank after it.
-pub enum Choice {
-    Go(usize, usize),
-    // No position leads to a marked rank.
-    Stuck,
-}
+ghost use Rattle.orders.specs.Opening.{Somewhere, Entry};
+ghost use Rattle.orders.specs.Passes.{Led, Onward, Reached, Least, Given, Forward, Filled, Passable, Pruned, Kept, Picked};
 
 // The position of each node, from 0.
 pub struct Positions {
     pub ps: [u8; 512],
 }
 
-// Marks in the gap after each node the ranks that ways lead to, and tells how many nodes can be passed.
-pub fn forward(work: &mut [u8], kinds: &[u8], ages: &[u8], counts: &[u8], ku: u8, kl: u8) -> usize
-    requires { ⌜ Given (now kinds) (now ages) (now counts) (now work) ku kl ⌝ }
-    requires { ⌜ Clear (now work) ⌝ }
-    ensures { λ n. ⌜ Forward ku kl (steps (now (kinds .entry)) (now (ages .entry)) (now (counts .entry))) (now (work .entry)) (now (work .exit)) n ⌝ }
-{
-    let tables = &TABLES;
-    forward_by(work, kinds, ages, counts, ku, kl, tables)
-}
-
-// The same, with the tables of touches and endings.
-fn forward_by(
+// Marks in the gap after each node the ranks that ways lead to, whatever stood there, and tells how many nodes can be passed.
+pub fn forward(
     work: &mut [u8],
     kinds: &[u8],
     ages: &[u8],
@@ -58,7 +37,6 @@ fn forward_by(
     tables: &[u32],
 ) -> usize
     requires { ⌜ Given (now kinds) (now ages) (now counts) (now work) ku kl ⌝ }
-    requires { ⌜ Clear (now work) ⌝ }
     requires { ⌜ Tables (now tables) ⌝ }
     ensures { λ n. ⌜ Forward ku kl (steps (now (kinds .entry)) (now (ages .entry)) (now (counts .entry))) (now (work .entry)) (now (work .exit)) n ⌝ }
 {
@@ -66,6 +44,7 @@ fn forward_by(
     let mut i = 0;
     while i < n {
         let stop = stop_at(kinds, ages, counts, ku, kl, i);
+        clear(work, i);
         if spread(work, i, stop, tables) {
             return i;
         }
@@ -75,18 +54,7 @@ fn forward_by(
 }
 
 // Leaves in each gap only the ranks from which the nodes after it can be passed.
-pub fn prune(work: &mut [u8], kinds: &[u8], ages: &[u8], counts: &[u8], ku: u8, kl: u8)
-    requires { ⌜ Given (now kinds) (now ages) (now counts) (now work) ku kl ⌝ }
-    requires { ⌜ Filled ku kl (steps (now kinds) (now ages) (now counts)) (length (now kinds)) (now work) ⌝ }
-    requires { ⌜ Passable ku kl (steps (now kinds) (now ages) (now counts)) ⌝ }
-    ensures { λ _. ⌜ Pruned ku kl (steps (now (kinds .entry)) (now (ages .entry)) (now (counts .entry))) (now (work .entry)) (now (work .exit)) ⌝ }
-{
-    let tables = &TABLES;
-    prune_by(work, kinds, ages, counts, ku, kl, tables);
-}
-
-// The same, with the tables of endings.
-fn prune_by(
+pub fn prune(
     work: &mut [u8],
     kinds: &[u8],
     ages: &[u8],
@@ -110,52 +78,84 @@ fn prune_by(
     }
 }
 
-// The first positions, in reading order, that lead through all nodes.
-pub fn pick(work: &[u8], kinds: &[u8], ages: &[u8], counts: &[u8], ku: u8, kl: u8) -> Positions
-    requires { ⌜ Given (now kinds) (now ages) (now counts) (now work) ku kl ⌝ }
-    requires { ⌜ Kept ku kl (steps (now kinds) (now ages) (now counts)) (now work) ⌝ }
-    requires { ⌜ Passable ku kl (steps (now kinds) (now ages) (now counts)) ⌝ }
-    requires { ⌜ length (now kinds) ≤ 512 ⌝ }
-    ensures { λ a. ⌜ Picked ku kl (steps (now (kinds .entry)) (now (ages .entry)) (now (counts .entry))) a ⌝ }
+// The least place of a new net among b others, over an order of rank r, that makes a marked rank of gap g, and that rank.
+pub fn enter(work: &[u8], g: usize, b: usize, r: usize) -> Place
+    requires { ⌜ (stretch * suc g ≤ length (now work)) × (b < capacity) × (r < fact b) ⌝ }
+    requires { ⌜ Somewhere (marked (now work) g) b r ⌝ }
+    requires { ⌜ ((x : ℕ) → marked (now work) g x ≡ true → RankOf (suc b) x) ⌝ }
+    ensures { λ p. ⌜ Entry (marked (now (work .entry)) g) b r (p .at) (p .rest) ⌝ }
 {
-    let ps = [0u8; 512];
-    pick_into(Positions { ps }, work, kinds, ages, counts, ku, kl)
+    if b < 4 {
+        return enter_few(word(work, g, 0), b, r);
+    }
+    if b == 4 {
+        return enter_fifth(work, g, r);
+    }
+    enter_sixth(work, g, r)
 }
 
-// The same, written over the positions that are given.
-fn pick_into(
-    old: Positions,
-    work: &[u8],
-    kinds: &[u8],
-    ages: &[u8],
-    counts: &[u8],
-    ku: u8,
-    kl: u8,
-) -> Positions
-    requires { ⌜ Given (now kinds) (now ages) (now counts) (now work) ku kl ⌝ }
-    requires { ⌜ Kept ku kl (steps (now kinds) (now ages) (now counts)) (now work) ⌝ }
-    requires { ⌜ Passable ku kl (steps (now kinds) (now ages) (now counts)) ⌝ }
-    requires { ⌜ (length (now kinds) ≤ 512) × (length (old .ps) ≡ 512) ⌝ }
-    ensures { λ a. ⌜ Picked ku kl (steps (now (kinds .entry)) (now (ages .entry)) (now (counts .entry))) a ⌝ }
+// The same among at most three others, where one word has all ranks.
+fn enter_few(w: u32, b: usize, r: usize) -> Place
+    requires { ⌜ (b < 4) × (r < fact b) ⌝ }
+    requires { ⌜ Somewhere (bit w) b r ⌝ }
+    ensures { λ p. ⌜ Entry (bit w) b r (p .at) (p .rest) ⌝ }
 {
-    let n = kinds.len();
-    let mut ps = old.ps;
-    let mut r: usize = 0;
-    let mut i = 0;
-    while i < n {
-        let stop = stop_at(kinds, ages, counts, ku, kl, i);
-        let Choice::Go(p, x) = choose(work, i, stop, r) else {
-            return Positions { ps };
-        };
-        ps[i] = p as u8;
-        r = x;
-        i += 1;
+    let unit = factorial(b);
+    let mut p: usize = 0;
+    let mut x = r;
+    while p < b {
+        if (w >> x) % 2 == 1 {
+            return Place { at: p, rest: x };
+        }
+        p += 1;
+        x += unit;
     }
-    Positions { ps }
+    Place { at: p, rest: x }
+}
+
+// The same for a fifth net, which has a word for each place.
+fn enter_fifth(work: &[u8], g: usize, r: usize) -> Place
+    requires { ⌜ (stretch * suc g ≤ length (now work)) × (r < 24) ⌝ }
+    requires { ⌜ Somewhere (marked (now work) g) 4 r ⌝ }
+    ensures { λ p. ⌜ Entry (marked (now (work .entry)) g) 4 r (p .at) (p .rest) ⌝ }
+{
+    let mut p: usize = 0;
+    while p < 4 {
+        if (word(work, g, p) >> r) % 2 == 1 {
+            return Place {
+                at: p,
+                rest: 24 * p + r,
+            };
+        }
+        p += 1;
+    }
+    Place {
+        at: p,
+        rest: 24 * p + r,
+    }
+}
+
+// The same for a sixth net, which stands at 2 or 3.
+fn enter_sixth(work: &[u8], g: usize, r: usize) -> Place
+    requires { ⌜ (stretch * suc g ≤ length (now work)) × (r < 120) ⌝ }
+    requires { ⌜ Somewhere (marked (now work) g) 5 r ⌝ }
+    requires { ⌜ ((x : ℕ) → marked (now work) g x ≡ true → 240 ≤ x) ⌝ }
+    ensures { λ p. ⌜ Entry (marked (now (work .entry)) g) 5 r (p .at) (p .rest) ⌝ }
+{
+    if (word(work, g, 5 + r / 24) >> (r % 24)) % 2 == 1 {
+        return Place {
+            at: 2,
+            rest: 240 + r,
+        };
+    }
+    Place {
+        at: 3,
+        rest: 360 + r,
+    }
 }
 
 // Node i.
-fn stop_at(kinds: &[u8], ages: &[u8], counts: &[u8], ku: u8, kl: u8, i: usize) -> Stop
+pub fn stop_at(kinds: &[u8], ages: &[u8], counts: &[u8], ku: u8, kl: u8, i: usize) -> Stop
     requires { ⌜ (i < length (now kinds)) × (length (now ages) ≡ length (now kinds)) × (length (now counts) ≡ length (now kinds)) ⌝ }
     ensures { λ t. ⌜ t ≡ stopOf (now (kinds .entry)) (now (ages .entry)) (now (counts .entry)) ku kl i ⌝ }
 {
@@ -181,112 +181,6 @@ fn prune_set(work: &mut [u8], g: usize, stop: Stop, tables: &[u32])
         0 => unopen(work, g, stop),
         1 => prune_touched(work, g, stop),
         2 => unend(work, g, stop, tables),
-        _ => prune_ranks(work, g, stop),
+        _ => clear(work, g),
     }
-}
-
-// The same, rank by rank.
-fn prune_ranks(work: &mut [u8], g: usize, stop: Stop)
-    requires { ⌜ Sound stop × (stretch * suc (suc g) ≤ length (now work)) ⌝ }
-    requires { ⌜ ((x : ℕ) → x < ranks → marked (now work) g x ≡ true → x < fact (stop .count)) ⌝ }
-    ensures { λ _. ⌜ Loses (now (work .entry)) g (Onward stop (now (work .entry)) (suc g)) (now (work .exit)) ⌝ }
-{
-    let b = stop.count as usize;
-    let m = factorial(b);
-    let mut r: usize = 0;
-    while r < m {
-        prune_rank(work, g, stop, r);
-        r += 1;
-    }
-}
-
-// Leaves rank r in gap g only where the node after it leads from there to a marked rank.
-fn prune_rank(work: &mut [u8], g: usize, stop: Stop, r: usize)
-    requires { ⌜ Sound stop × (stretch * suc (suc g) ≤ length (now work)) ⌝ }
-    requires { ⌜ r < fact (stop .count) ⌝ }
-    ensures { λ _. ⌜ Loses (now (work .entry)) g (λ x. (x ≡ r → Onward stop (now (work .entry)) (suc g) x)) (now (work .exit)) ⌝ }
-{
-    if !is_marked(work, g, r) {
-        return;
-    }
-    let Choice::Stuck = choose(work, g + 1, stop, r) else {
-        return;
-    };
-    unmark(work, g, r);
-}
-
-// The least position at which a node leads from rank r to a marked rank of gap g.
-fn choose(work: &[u8], g: usize, stop: Stop, r: usize) -> Choice
-    requires { ⌜ Sound stop × (stretch * suc g ≤ length (now work)) ⌝ }
-    requires { ⌜ r < fact (stop .count) ⌝ }
-    ensures { λ c. ⌜ Chosen stop (now (work .entry)) g r c ⌝ }
-{
-    let kind = stop.kind;
-    match kind {
-        0 => choose_place(work, g, stop, r),
-        1 => stay(work, g, stop, r),
-        2 => stay(work, g, stop, r),
-        _ => Choice::Stuck,
-    }
-}
-
-// The same, trying one position after the other.
-fn choose_place(work: &[u8], g: usize, stop: Stop, r: usize) -> Choice
-    requires { ⌜ Sound stop × (stretch * suc g ≤ length (now work)) ⌝ }
-    requires { ⌜ r < fact (stop .count) ⌝ }
-    ensures { λ c. ⌜ Chosen stop (now (work .entry)) g r c ⌝ }
-{
-    let mut p: usize = 0;
-    while p < CAPACITY {
-        if let Landing::To(x) = land(work, g, stop, r, p) {
-            return Choice::Go(p, x);
-        }
-        p += 1;
-    }
-    Choice::Stuck
-}
-
-// The same for an open net, which has one position.
-fn stay(work: &[u8], g: usize, stop: Stop, r: usize) -> Choice
-    requires { ⌜ Sound stop × (0 < stop .kind) × (stop .kind < 3) × (stretch * suc g ≤ length (now work)) ⌝ }
-    requires { ⌜ r < fact (stop .count) ⌝ }
-    ensures { λ c. ⌜ Chosen stop (now (work .entry)) g r c ⌝ }
-{
-    let kind = stop.kind;
-    let place = locate(stop.age as usize, stop.count as usize, r);
-    let p = place.at;
-    if !fit(stop.ku, stop.kl, p, stop.count as usize) {
-        return Choice::Stuck;
-    }
-    if kind == 1 {
-        return go_to(work, g, p, r);
-    }
-    let rest = place.rest;
-    go_to(work, g, p, rest)
-}
-
-// Position p and rank x, where that is a marked rank of gap g.
-fn go_to(work: &[u8], g: usize, p: usize, x: usize) -> Choice
-    requires { ⌜ stretch * suc g ≤ length (now work) ⌝ }
-    ensures { λ c. ⌜ c ≡ goes (marked (now (work .entry)) g x) p x ⌝ }
-{
-    if is_marked(work, g, x) {
-        return Choice::Go(p, x);
-    }
-    Choice::Stuck
-}
-
-// Where position p leads from rank r, if that is a marked rank of gap g.
-fn land(work: &[u8], g: usize, stop: Stop, r: usize, p: usize) -> Landing
-    requires { ⌜ Sound stop × (stretch * suc g ≤ length (now work)) ⌝ }
-    requires { ⌜ r < fact (stop .count) ⌝ }
-    ensures { λ l. ⌜ Landed stop (now (work .entry)) g r p l ⌝ }
-{
-    let Landing::To(x) = hop(stop, r, p) else {
-        return Landing::Nowhere;
-    };
-    if is_marked(work, g, x) {
-        return Landing::To(x);
-    }
-    Landing::Nowhere
 }

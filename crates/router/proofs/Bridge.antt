@@ -260,7 +260,7 @@ nothing-began = record { once = λ x. omega arith; past = λ x t. absurd (omega 
 
 module _ (ku kl : ℕ) (hu : ku ≤ 3) (hl : kl ≤ 3) (row : List ℕ) (whole : (i : ℕ) → i < length row → lone row i ≡ false) {ss : List Step}
     (tells : Tells (nodes row) [] ss) (steps : Steps 0 ss) where
-  runs-as-hops : (j : ℕ) (ps : List ℕ)
+  pub runs-as-hops : (j : ℕ) (ps : List ℕ)
       → run ku kl (take j (nodes row)) [] (map suc ps) ≡ Option·map (orderOf (youngs (take j (nodes row)) [])) (hops ku kl (take j ss) 0 ps)
   unfolding orderOf fact
   runs-as-hops j ps = run-hops ku kl hu hl j 0 tells steps (nodes-own row) nothing-began 0 (omega arith) ps
@@ -280,7 +280,7 @@ module _ (ku kl : ℕ) (hu : ku ≤ 3) (hl : kl ≤ 3) (row : List ℕ) (whole :
       (sym (runs-as-hops j (q .0)) ∙ ap (run ku kl (take j (nodes row)) []) (sym (q .1)) ∙ h .runs) in
       (q .0, m .0, m .1)
 
-  length-told : {ns : List Node} {o : List ℕ} {ts : List Step} → Tells ns o ts → length ns ≡ length ts
+  pub length-told : {ns : List Node} {o : List ℕ} {ts : List Step} → Tells ns o ts → length ns ≡ length ts
   length-told Tells.nil = refl
   length-told (Tells.full e l) = ap suc l
   length-told (Tells.more e t) = ap suc (length-told t)

@@ -32,7 +32,7 @@ use Rattle.script.proofs.Touched.{tells-steps}
 use Rattle.script.proofs.Passed.{plan-kinds}
 use Rattle.writer.specs.Entered.{Writing, zipped}
 use Rattle.writer.proofs.Zipping.{zipped-entries}
-use Rattle.router.specs.Walk.{Placeable, Found}
+use Rattle.router.specs.Walk.{Planned}
 use Rattle.router.specs.Search.{Searched}
 use Rattle.router.specs.Routed.{Laid}
 use Rattle.router.proofs.Bridge.{hops-first, hops-placing, hops-stops}
@@ -90,6 +90,9 @@ module _ (row kinds ages counts : List ℕ) (ku kl : ℕ) (work out : List ℕ) 
         lower = fit .lower;
       }
 
+  pub lay-planned : Planned row ks (take n ages) (take n counts)
+  lay-planned = record { few = fit .most; whole = fit .whole; tells = told .tells; long = sym kinds-cut }
+
   steps-count : length ss ≡ n
   steps-count = steps-length ks (take n ages) (take n counts) ∙ sym kinds-cut
 
@@ -127,55 +130,36 @@ module _ (row kinds ages counts : List ℕ) (ku kl : ℕ) (work out : List ℕ) 
       kinds-told : ks ≡ map (λ (m : Node). code (kind m)) (nodes row)
       kinds-told = plan-kinds row ku kl (omega (arith, fit .upper, fit .lower)) ks (take n ages) (take n counts) (map suc (take n ps)) [] (told .tells) (is-first .placing)
 
-      pub lay-placeable : Placeable row ks (take n ps)
-      lay-placeable =
+      pub places-cut : n ≡ length (take n ps)
+      places-cut = sym (length-take-le n ps (omega (arith, found .cells, fit .most)))
+
+      pub lay-writing : Writing out ks (take n ps) ku kl
+      lay-writing =
           record {
-            few = fit .most;
-            ku = ku;
-            kl = kl;
-            end = [];
-            sum = omega (arith, fit .upper, fit .lower);
-            told = kinds-told;
-            runs = is-first .placing;
+            upper = fit .upper;
+            lower = fit .lower;
+            long = sym places-cut ∙ kinds-cut;
+            few = omega (arith, kinds-cut, fit .most);
+            kind = below-mono (omega arith) (below-take n (told .small));
+            place = places-low ku kl (fit .upper) (nodes row) [] (take n ps) [] (is-first .placing);
+            room = rw (← kinds-cut) (fit .sheet-long);
           }
 
-      pub chosen-cut : n ≡ length (take n ps)
-      chosen-cut = sym (length-take-le n ps (omega (arith, found .cells, fit .most)))
+      sheet-bytes : bytes (sheetBits ku kl (zipped ks (take n ps))) ≡ firstSheet row ku kl
+      unfolding firstSheet sheet settle
+      sheet-bytes =
+          let e : zipped ks (take n ps) ≡ entries (nodes row) (map suc (take n ps)) =
+          ap₂ zipped kinds-told (sym (less-suc (take n ps))) ∙ zipped-entries (nodes row) (map suc (take n ps)) in
+          ap (λ es. bytes (sheetBits ku kl es)) e
+          ∙ rw (first-unique ku kl (nodes row) (map suc (take n ps)) is-first)
 
-      module _ (places : List ℕ) (walked : Found (take n ps) places) where
-        same-places : take n places ≡ take n ps
-        same-places = ap (λ k. take k places) chosen-cut ∙ walked .same
-
-        pub places-cut : n ≡ length (take n places)
-        places-cut = chosen-cut ∙ ap length (sym same-places)
-
-        pub lay-writing : Writing out ks (take n places) ku kl
-        lay-writing =
-            record {
-              upper = fit .upper;
-              lower = fit .lower;
-              long = sym places-cut ∙ kinds-cut;
-              few = omega (arith, kinds-cut, fit .most);
-              kind = below-mono (omega arith) (below-take n (told .small));
-              place = rw same-places (places-low ku kl (fit .upper) (nodes row) [] (take n ps) [] (is-first .placing));
-              room = rw (← kinds-cut) (fit .sheet-long);
-            }
-
-        sheet-bytes : bytes (sheetBits ku kl (zipped ks (take n places))) ≡ firstSheet row ku kl
-        unfolding firstSheet sheet settle
-        sheet-bytes =
-            let e : zipped ks (take n places) ≡ entries (nodes row) (map suc (take n ps)) =
-            ap₂ zipped kinds-told (same-places ∙ sym (less-suc (take n ps))) ∙ zipped-entries (nodes row) (map suc (take n ps)) in
-            ap (λ es. bytes (sheetBits ku kl es)) e
-            ∙ rw (first-unique ku kl (nodes row) (map suc (take n ps)) is-first)
-
-        -- the first placing's sheet is written
-        pub lay-sheet : (out′ : List ℕ) → out′ ≡ written (bytes (sheetBits ku kl (zipped ks (take n places)))) out
-            → Laid row ku kl work out (Sheet n) (after ++ drop (90 * n) work) out′
-        unfolding outcome workAfter sheetAfter
-        lay-sheet out′ e =
-            record {
-              answer = sym (ap (outcome ku kl (nodes row)) (first-unique ku kl (nodes row) (map suc (take n ps)) is-first) ∙ ap Sheet (length-nodes row));
-              cleared = after-zeros;
-              written = e ∙ ap (λ b. written b out) sheet-bytes;
-            }
+      -- the first placing's sheet is written
+      pub lay-sheet : (out′ : List ℕ) → out′ ≡ written (bytes (sheetBits ku kl (zipped ks (take n ps)))) out
+          → Laid row ku kl work out (Sheet n) (after ++ drop (90 * n) work) out′
+      unfolding outcome workAfter sheetAfter
+      lay-sheet out′ e =
+          record {
+            answer = sym (ap (outcome ku kl (nodes row)) (first-unique ku kl (nodes row) (map suc (take n ps)) is-first) ∙ ap Sheet (length-nodes row));
+            cleared = after-zeros;
+            written = e ∙ ap (λ b. written b out) sheet-bytes;
+          }

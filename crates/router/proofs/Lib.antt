@@ -1,5 +1,7 @@
 pub mod Bridge
 pub mod Searching
+pub mod Holding
+pub mod Turning
 pub mod Walking
 pub mod Laying
 pub mod Checking

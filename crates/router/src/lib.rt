@@ -11,7 +11,6 @@ use script::plan::tell;
 use search::search;
 use streets::Streets;
 use streets::streets_of;
-use walk::walk;
 use writer::sheet_size;
 use writer::write_sheet;
 ghost use mathlib.Core.Path.{_≡_};
@@ -77,6 +76,7 @@ fn lay(row: &[u8], plan: Script, ku: u8, kl: u8, work: &mut [u8], sheet: &mut [u
     let counts = plan.counts;
     let room = 90 * n;
     let found = search(
+        row,
         &mut work[..room],
         &kinds[..n],
         &ages[..n],
@@ -88,9 +88,7 @@ fn lay(row: &[u8], plan: Script, ku: u8, kl: u8, work: &mut [u8], sheet: &mut [u
     if passed < n {
         return Routing::Stuck(passed + 1);
     }
-    let chosen = found.ps;
-    let placed = walk(row, &kinds[..n], &chosen[..n]);
-    let places = placed.ps;
+    let places = found.ps;
     write_sheet(sheet, &kinds[..n], &places[..n], ku, kl);
     Routing::Sheet(n)
 }

@@ -1,41 +1,80 @@
-// The last pass: the row once more with an order of labels, which gives each touched net's place.
+// The last pass: the row once more, with the rank that the first placing has after each node, and the order of that rank, by labels.
 use orders::pass::Positions;
+use orders::pass::enter;
+use orders::pass::stop_at;
+use orders::rank::Stop;
+use orders::rank::locate;
 use street::Order;
-ghost use Rattle.router.specs.Walk.{Placeable, Standing, Stood, Found};
+ghost use mathlib.Core.Path.{_≡_};
+ghost use mathlib.Core.List.{map};
+ghost use Rattle.rules.specs.Row.{Node, nodes};
+ghost use Rattle.rules.specs.Street.{kind};
+ghost use Rattle.rules.specs.Sheet.{code};
+ghost use Rattle.orders.specs.Plan.{steps};
+ghost use Rattle.orders.specs.Four.{Tables};
+ghost use Rattle.orders.specs.Passes.{Given, Kept, Passable, Picked};
+ghost use Rattle.router.specs.Walk.{Planned, Standing, Stood};
 
-// Where the net of a node stands, and the order after the node.
+// Where the net of a node stands, and the rank and the order after the node.
 struct Turn {
     place: u8,
+    rank: usize,
     held: Order,
 }
 
-// The places of all nodes, from those chosen at the nodes where a net begins.
-pub fn walk(row: &[u8], kinds: &[u8], chosen: &[u8]) -> Positions
-    requires { ⌜ Placeable (now row) (now kinds) (now chosen) ⌝ }
-    ensures { λ r. ⌜ Found (now (chosen .entry)) (r .ps) ⌝ }
+// The first positions, in reading order, that lead through all nodes: a new net goes to the least place whose rank is marked, another stands where the
+// order has it.
+pub fn walk(
+    row: &[u8],
+    work: &[u8],
+    kinds: &[u8],
+    ages: &[u8],
+    counts: &[u8],
+    ku: u8,
+    kl: u8,
+    tables: &[u32],
+) -> Positions
+    requires { ⌜ Given (now kinds) (now ages) (now counts) (now work) ku kl ⌝ }
+    requires { ⌜ Kept ku kl (steps (now kinds) (now ages) (now counts)) (now work) ⌝ }
+    requires { ⌜ Passable ku kl (steps (now kinds) (now ages) (now counts)) ⌝ }
+    requires { ⌜ Planned (now row) (now kinds) (now ages) (now counts) ⌝ }
+    requires { ⌜ now kinds ≡ map (λ (n : Node). code (kind n)) (nodes (now row)) ⌝ }
+    requires { ⌜ Tables (now tables) ⌝ }
+    ensures { λ a. ⌜ Picked ku kl (steps (now (kinds .entry)) (now (ages .entry)) (now (counts .entry))) a ⌝ }
 {
     let mut ps = [0u8; 512];
     let mut held = Order::new();
+    let mut r: usize = 0;
     let mut i = 0;
     while i < row.len() {
-        let turn = stand(held, kinds[i], row[i], chosen[i]);
+        let stop = stop_at(kinds, ages, counts, ku, kl, i);
+        let turn = stand(held, r, stop, row[i], work, i, tables);
         ps[i] = turn.place;
+        r = turn.rank;
         held = turn.held;
         i += 1;
     }
     Positions { ps }
 }
 
-// One node: a new net goes to the place chosen for it, another stands where the order has it.
-fn stand(held: Order, kind: u8, x: u8, chosen: u8) -> Turn
-    requires { ⌜ Standing held kind x chosen ⌝ }
-    ensures { λ r. ⌜ Stood held kind x chosen (r .place) (r .held) ⌝ }
+// One node.
+fn stand(held: Order, r: usize, stop: Stop, x: u8, work: &[u8], g: usize, tables: &[u32]) -> Turn
+    requires { ⌜ Standing held stop (now work) g r x ⌝ }
+    requires { ⌜ Tables (now tables) ⌝ }
+    ensures { λ t. ⌜ Stood held stop (now (work .entry)) g r x (t .place) (t .rank) (t .held) ⌝ }
 {
+    let kind = stop.kind;
+    let b = stop.count as usize;
+    let a = stop.age as usize;
     match kind {
         0 => {
-            let next = held.insert(chosen as usize, x);
+            let chosen = enter(work, g, b, r);
+            let place = chosen.at;
+            let rank = chosen.rest;
+            let next = held.insert(place, x);
             Turn {
-                place: chosen,
+                place: place as u8,
+                rank,
                 held: next,
             }
         }
@@ -43,14 +82,18 @@ fn stand(held: Order, kind: u8, x: u8, chosen: u8) -> Turn
             let place = held.find(x);
             Turn {
                 place: place as u8,
+                rank: r,
                 held,
             }
         }
         _ => {
             let place = held.find(x);
+            let left = locate(tables, a, b, r);
+            let rank = left.rest;
             let next = held.remove(place);
             Turn {
                 place: place as u8,
+                rank,
                 held: next,
             }
         }

@@ -1,7 +1,7 @@
 -- `router::lay` meets its contract: what the search finds is the row's first placing or its failing node. Assumes nothing.
 use native.Mathlib.Omega.{arith}
 use borrow.Author.Needs.{needs}
-use Rattle.router.proofs.Laying.{kinds-cut, ages-cut, counts-cut, work-cut, lay-given, lay-stuck, lay-placeable, chosen-cut, places-cut, lay-writing, lay-sheet}
+use Rattle.router.proofs.Laying.{kinds-cut, ages-cut, counts-cut, work-cut, lay-given, lay-planned, lay-stuck, places-cut, lay-writing, lay-sheet}
 use Rattle.router.proofs.lay.Statement.{statement}
 use Rattle.router.proofs.lay.Tie as tie
 
@@ -48,10 +48,10 @@ search-requires : tie.Need-search-requires
 search-requires c κs =
     let s = c .before .before .before .before .before .before .before .before .before .before in
     let g = s .args in
-    (lay-given (g .row .now) (g .plan .kinds) (g .plan .ages) (g .plan .counts) (g .ku) (g .kl) (g .work .now) (g .sheet .now) (s .pre .0) (s .pre .1), omega (arith, kinds-cut (g .row .now) (g .plan .kinds) (g .plan .ages) (g .plan .counts) (g .ku) (g .kl) (g .work .now) (g .sheet .now) (s .pre .0) (s .pre .1), s .pre .0 .most))
+    (lay-given (g .row .now) (g .plan .kinds) (g .plan .ages) (g .plan .counts) (g .ku) (g .kl) (g .work .now) (g .sheet .now) (s .pre .0) (s .pre .1), lay-planned (g .row .now) (g .plan .kinds) (g .plan .ages) (g .plan .counts) (g .ku) (g .kl) (g .work .now) (g .sheet .now) (s .pre .0) (s .pre .1))
 
-add-t26 : tie.Need-add-t26
-add-t26 c = search needs
+add-t24 : tie.Need-add-t24
+add-t24 c = search needs
 
 same-length : tie.Need-same-length
 same-length c = search needs
@@ -61,40 +61,14 @@ returns c =
     let s = c .before .before .before .before .before .before .before .before .before .before .before .before .before .before in
     let g = s .args in
     let f = c .before .before .before .search in
-    lay-stuck (g .row .now) (g .plan .kinds) (g .plan .ages) (g .plan .counts) (g .ku) (g .kl) (g .work .now) (g .sheet .now) (s .pre .0) (s .pre .1) (f .last .0) (f .result .passed) (f .result .ps) (f .ensures) (omega arith)
+    lay-stuck (g .row .now) (g .plan .kinds) (g .plan .ages) (g .plan .counts) (g .ku) (g .kl) (g .work .now) (g .sheet .now) (s .pre .0) (s .pre .1) (f .last .1 .0) (f .result .passed) (f .result .ps) (f .ensures) (omega arith)
 
 array-share-prefix-kinds-2 : tie.Need-array-share-prefix-kinds-2
 array-share-prefix-kinds-2 c = search needs
 
-slice-aggregate-walk : tie.Need-slice-aggregate-walk
-slice-aggregate-walk c =
-    let s = c .before .before .before .before .before .before .before .before .before .before .before .before .before .before .before .before in
-    let g = s .args in
-    kinds-cut (g .row .now) (g .plan .kinds) (g .plan .ages) (g .plan .counts) (g .ku) (g .kl) (g .work .now) (g .sheet .now) (s .pre .0) (s .pre .1)
-
-array-share-prefix-chosen : tie.Need-array-share-prefix-chosen
-array-share-prefix-chosen c = search needs
-
-slice-aggregate-walk-2 : tie.Need-slice-aggregate-walk-2
-slice-aggregate-walk-2 c =
-    let s = c .before .before .before .before .before .before .before .before .before .before .before .before .before .before .before .before .before in
-    let g = s .args in
-    let f = c .before .before .before .before .before .before .search in
-    chosen-cut (g .row .now) (g .plan .kinds) (g .plan .ages) (g .plan .counts) (g .ku) (g .kl) (g .work .now) (g .sheet .now) (s .pre .0) (s .pre .1) (f .last .0) (f .result .passed) (f .result .ps) (f .ensures) (omega (arith, c .before .before .before .if1 .left))
-
-walk-requires : tie.Need-walk-requires
-walk-requires c κs =
-    let s = c .before .before .before .before .before .before .before .before .before .before .before .before .before .before .before .before .before in
-    let g = s .args in
-    let f = c .before .before .before .before .before .before .search in
-    lay-placeable (g .row .now) (g .plan .kinds) (g .plan .ages) (g .plan .counts) (g .ku) (g .kl) (g .work .now) (g .sheet .now) (s .pre .0) (s .pre .1) (f .last .0) (f .result .passed) (f .result .ps) (f .ensures) (omega (arith, c .before .before .before .if1 .left))
-
-array-share-prefix-kinds-3 : tie.Need-array-share-prefix-kinds-3
-array-share-prefix-kinds-3 c = search needs
-
 slice-aggregate-write-sheet : tie.Need-slice-aggregate-write-sheet
 slice-aggregate-write-sheet c =
-    let s = c .before .before .before .before .before .before .before .before .before .before .before .before .before .before .before .before .before .before .before .before .before in
+    let s = c .before .before .before .before .before .before .before .before .before .before .before .before .before .before .before .before .before in
     let g = s .args in
     kinds-cut (g .row .now) (g .plan .kinds) (g .plan .ages) (g .plan .counts) (g .ku) (g .kl) (g .work .now) (g .sheet .now) (s .pre .0) (s .pre .1)
 
@@ -103,19 +77,17 @@ array-share-prefix-places c = search needs
 
 slice-aggregate-write-sheet-2 : tie.Need-slice-aggregate-write-sheet-2
 slice-aggregate-write-sheet-2 c =
-    let s = c .before .before .before .before .before .before .before .before .before .before .before .before .before .before .before .before .before .before .before .before .before .before in
+    let s = c .before .before .before .before .before .before .before .before .before .before .before .before .before .before .before .before .before .before in
     let g = s .args in
-    let f = c .before .before .before .before .before .before .before .before .before .before .before .search in
-    let w = c .before .before .before .before .walk in
-    places-cut (g .row .now) (g .plan .kinds) (g .plan .ages) (g .plan .counts) (g .ku) (g .kl) (g .work .now) (g .sheet .now) (s .pre .0) (s .pre .1) (f .last .0) (f .result .passed) (f .result .ps) (f .ensures) (omega (arith, c .before .before .before .before .before .before .before .before .if1 .left)) (w .result .ps) (w .ensures)
+    let f = c .before .before .before .before .before .before .before .search in
+    places-cut (g .row .now) (g .plan .kinds) (g .plan .ages) (g .plan .counts) (g .ku) (g .kl) (g .work .now) (g .sheet .now) (s .pre .0) (s .pre .1) (f .last .1 .0) (f .result .passed) (f .result .ps) (f .ensures) (omega (arith, c .before .before .before .before .if1 .left))
 
 write-sheet-requires : tie.Need-write-sheet-requires
 write-sheet-requires c κs =
-    let s = c .before .before .before .before .before .before .before .before .before .before .before .before .before .before .before .before .before .before .before .before .before .before in
+    let s = c .before .before .before .before .before .before .before .before .before .before .before .before .before .before .before .before .before .before in
     let g = s .args in
-    let f = c .before .before .before .before .before .before .before .before .before .before .before .search in
-    let w = c .before .before .before .before .walk in
-    lay-writing (g .row .now) (g .plan .kinds) (g .plan .ages) (g .plan .counts) (g .ku) (g .kl) (g .work .now) (g .sheet .now) (s .pre .0) (s .pre .1) (f .last .0) (f .result .passed) (f .result .ps) (f .ensures) (omega (arith, c .before .before .before .before .before .before .before .before .if1 .left)) (w .result .ps) (w .ensures)
+    let f = c .before .before .before .before .before .before .before .search in
+    lay-writing (g .row .now) (g .plan .kinds) (g .plan .ages) (g .plan .counts) (g .ku) (g .kl) (g .work .now) (g .sheet .now) (s .pre .0) (s .pre .1) (f .last .1 .0) (f .result .passed) (f .result .ps) (f .ensures) (omega (arith, c .before .before .before .before .if1 .left))
 
 same-length-2 : tie.Need-same-length-2
 same-length-2 c = search needs
@@ -125,12 +97,11 @@ same-length-3 c = search needs
 
 returns-2 : tie.Need-returns-2
 returns-2 c =
-    let s = c .before .before .before .before .before .before .before .before .before .before .before .before .before .before .before .before .before .before .before .before .before .before .before .before .before in
+    let s = c .before .before .before .before .before .before .before .before .before .before .before .before .before .before .before .before .before .before .before .before .before in
     let g = s .args in
-    let f = c .before .before .before .before .before .before .before .before .before .before .before .before .before .before .search in
-    let w = c .before .before .before .before .before .before .before .walk in
+    let f = c .before .before .before .before .before .before .before .before .before .before .search in
     let t = c .before .before .write-sheet in
-    lay-sheet (g .row .now) (g .plan .kinds) (g .plan .ages) (g .plan .counts) (g .ku) (g .kl) (g .work .now) (g .sheet .now) (s .pre .0) (s .pre .1) (f .last .0) (f .result .passed) (f .result .ps) (f .ensures) (omega (arith, c .before .before .before .before .before .before .before .before .before .before .before .if1 .left)) (w .result .ps) (w .ensures) (t .last .0) (t .ensures)
+    lay-sheet (g .row .now) (g .plan .kinds) (g .plan .ages) (g .plan .counts) (g .ku) (g .kl) (g .work .now) (g .sheet .now) (s .pre .0) (s .pre .1) (f .last .1 .0) (f .result .passed) (f .result .ps) (f .ensures) (omega (arith, c .before .before .before .before .before .before .before .if1 .left)) (t .last .0) (t .ensures)
 
 pub lay-spec : {M : Type 1} → statement M
 lay-spec =
@@ -146,15 +117,10 @@ lay-spec =
     array-share-prefix-counts
     slice-aggregate-search-4
     search-requires
-    add-t26
+    add-t24
     same-length
     returns
     array-share-prefix-kinds-2
-    slice-aggregate-walk
-    array-share-prefix-chosen
-    slice-aggregate-walk-2
-    walk-requires
-    array-share-prefix-kinds-3
     slice-aggregate-write-sheet
     array-share-prefix-places
     slice-aggregate-write-sheet-2

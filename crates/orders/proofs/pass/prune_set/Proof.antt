@@ -1,7 +1,9 @@
--- `orders::pass::prune_set` meets its contract: each way of doing it does.
+-- `orders::pass::prune_set` meets its contract: each way of doing it does, and a field that is no kind leads nowhere.
 use mathlib.Core.Path.{refl, _∙_}
 use Prim.Native.Nat.{suc}
+use native.Mathlib.Omega.{arith}
 use Rattle.orders.proofs.Bits.{source-gap}
+use Rattle.orders.proofs.Staying.{nowhere-onward}
 use borrow.Author.Needs.{needs}
 use Rattle.orders.proofs.pass.prune_set.Statement.{statement}
 use Rattle.orders.proofs.pass.prune_set.Tie as tie
@@ -19,12 +21,8 @@ prune-touched-requires c κs = search needs
 unend-requires : tie.Need-unend-requires
 unend-requires c κs = search needs
 
-prune-ranks-requires : tie.Need-prune-ranks-requires
-prune-ranks-requires c κs =
-    let g = c .before .before .before .before in (
-      g .pre .0,
-      λ x l m. g .pre .1 .1 .0 x (source-gap (g .args .work .now) (suc (g .args .g)) (g .args .g) x refl ∙ m) .below,
-    )
+clear-requires : tie.Need-clear-requires
+clear-requires c κs = omega (arith, c .before .before .before .before .pre .0 .1)
 
 same-length : tie.Need-same-length
 same-length c = search needs
@@ -48,7 +46,10 @@ same-length-4 : tie.Need-same-length-4
 same-length-4 c = search needs
 
 returns-4 : tie.Need-returns-4
-returns-4 c = search needs
+returns-4 c =
+    let g = c .before .before .before .before .before .before .before .args in
+    let o = c .before .before .clear in
+    nowhere-onward (g .stop) (g .work .now) (g .g) (o .last .0) (omega (arith, c .before .before .before .before .match .rest)) (o .ensures)
 
 pub prune-set-spec : {M : Type 1} → statement M
 prune-set-spec =
@@ -57,7 +58,7 @@ prune-set-spec =
     unopen-requires
     prune-touched-requires
     unend-requires
-    prune-ranks-requires
+    clear-requires
     same-length
     returns
     same-length-2

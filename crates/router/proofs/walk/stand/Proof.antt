@@ -1,93 +1,118 @@
--- `router::walk::stand` meets its contract: the order's functions put, find and cut as the street rules say of each kind. Assumes nothing.
-use mathlib.Core.Path.{_≡_, refl, sym, ap, _∙_}
-use Prim.Native.Nat.{ℕ, suc, _-_}
+-- `router::walk::stand` meets its contract, by the kind: `entered-stood`, `met-stood` and `ended-stood`. Assumes nothing.
 use native.Mathlib.Omega.{arith}
 use borrow.Author.Needs.{needs}
-use Rattle.rules.specs.Basic.{put, cut}
-use Rattle.rules.specs.Street.{next}
-use Rattle.rules.specs.Sheet.{kindIn}
-use Rattle.street.specs.Order.{listed}
+use Rattle.orders.proofs.Entering.{enters-somewhere, enters-room, enters-ranks}
+use Rattle.router.proofs.Turning.{entered-room, entered-stood, touched-open, met-stood, ended-stood}
 use Rattle.router.proofs.walk.stand.Statement.{statement}
 use Rattle.router.proofs.walk.stand.Tie as tie
 
-less : (p : ℕ) → suc p - 1 ≡ p
-less p = omega arith
+cast-b : tie.Need-cast-b
+cast-b c = search needs
+
+cast-a : tie.Need-cast-a
+cast-a c = search needs
+
+enter-requires : tie.Need-enter-requires
+enter-requires c κs =
+    let g = c .before .before .before .before .before in
+    let a = g .args in
+    let w = g .pre .0 in
+    let e = c .match .keys1 in (
+      (w .room, enters-room (a .stop) (a .work .now) (a .g) (a .r) (w .stop) e (w .rank) (w .led) (w .onward), w .rank),
+      (
+        enters-somewhere (a .stop) (a .work .now) (a .g) (a .r) (w .stop) e (w .rank) (w .led) (w .onward),
+        enters-ranks (a .stop) (a .work .now) (a .g) (a .r) (w .stop) e (w .rank) (w .led),
+      ),
+    )
 
 insert-requires : tie.Need-insert-requires
 insert-requires c κs =
-    let w = c .before .pre in
-    let o = w .opens (c .match .keys1) in
-    (w .sound, o .0, o .1)
+    let g = c .before .before .before .before .before .before in
+    let a = g .args in
+    let o = entered-room (a .held) (a .stop) (a .work .now) (a .g) (a .r) (a .x) (g .pre .0) (c .before .match .keys1) (c .enter .result .at)
+    (c .enter .result .rest) (c .enter .ensures) in
+    (g .pre .0 .sound, o .0, omega (arith, o .1))
+
+cast-t21 : tie.Need-cast-t21
+cast-t21 c = search needs
 
 find-requires : tie.Need-find-requires
 find-requires c κs =
-    let w = c .before .pre in
-    let s = w .stands (omega (arith, c .match .keys2)) in
-    (w .sound, omega (arith, s .0, s .1))
+    let g = c .before .before .before .before .before in
+    let a = g .args in (
+      g .pre .0 .sound,
+      touched-open (a .held) (a .stop) (a .work .now) (a .g) (a .r) (a .x) (g .pre .0) (omega (arith, c .match .keys2)),
+    )
 
-cast-t11 : tie.Need-cast-t11
-cast-t11 c = search needs
+cast-t22 : tie.Need-cast-t22
+cast-t22 c = search needs
 
 find-requires-2 : tie.Need-find-requires-2
 find-requires-2 c κs =
-    let w = c .before .pre in
-    let s = w .stands (omega (arith, c .match .rest)) in
-    (w .sound, omega (arith, s .0, s .1))
+    let g = c .before .before .before .before .before in
+    let a = g .args in (
+      g .pre .0 .sound,
+      touched-open (a .held) (a .stop) (a .work .now) (a .g) (a .r) (a .x) (g .pre .0) (omega (arith, c .match .rest)),
+    )
+
+locate-requires : tie.Need-locate-requires
+locate-requires c κs =
+    let g = c .before .before .before .before .before .before in
+    let w = g .pre .0 in
+    (g .pre .1, w .stop .touched (omega (arith, c .before .match .rest)), w .stop .few, w .rank)
 
 remove-requires : tie.Need-remove-requires
 remove-requires c κs =
-    let w = c .before .before .pre in
-    let s = w .stands (omega (arith, c .before .match .rest)) in
-    (w .sound, omega (arith, c .find2 .ensures .place, s .0, s .1))
+    let g = c .before .before .before .before .before .before .before in
+    let a = g .args in (
+      g .pre .0 .sound,
+      omega
+          (arith, c .before .find2 .ensures .place, touched-open (a .held) (a .stop) (a .work .now) (a .g) (a .r) (a .x) (g .pre .0) (omega (arith, c .before .before .match .rest))),
+    )
 
-cast-t12 : tie.Need-cast-t12
-cast-t12 c = search needs
+cast-t23 : tie.Need-cast-t23
+cast-t23 c = search needs
 
 returns : tie.Need-returns
-unfolding kindIn next
 returns c =
-    let g = c .before .before .args in
-    let e : g .kind ≡ 0 = c .before .match .keys1 in
-    rw e
-    (record {
-      is = refl;
-      sound = c .insert .ensures .sound;
-      list = c .insert .ensures .list ∙ ap (λ (k : ℕ). put k (g .x) (listed (g .held))) (sym (less (g .chosen)));
-    })
+    let g = c .before .before .before .before .before .before .before in
+    let a = g .args in
+    let n = c .before .enter in
+    entered-stood (a .held) (a .stop) (a .work .now) (a .g) (a .r) (a .x) (g .pre .0) (c .before .before .match .keys1) (n .result .at) (n .result .rest)
+    (n .ensures) (c .insert .result) (c .insert .ensures .sound) (c .insert .ensures .list)
 
 returns-2 : tie.Need-returns-2
-unfolding kindIn next
 returns-2 c =
-    let w = c .before .before .pre in
-    let e : c .before .before .args .kind ≡ 1 = c .before .match .keys2 in
-    let s = w .stands (omega arith) in
-    rw e (record { is = c .find .ensures .place ∙ sym (s .0); sound = w .sound; list = refl })
+    let g = c .before .before .before .before .before .before in
+    let a = g .args in
+    met-stood (a .held) (a .stop) (a .work .now) (a .g) (a .r) (a .x) (g .pre .0) (omega (arith, c .before .match .keys2)) (c .find .result)
+    (c .find .ensures .place) (c .before .match .keys2)
 
 returns-3 : tie.Need-returns-3
-unfolding kindIn next
 returns-3 c =
-    let g = c .before .before .before .args in
-    let w = c .before .before .before .pre in
-    let e : g .kind ≡ 2 = omega (arith, c .before .before .match .rest, w .kind) in
-    let s = w .stands (omega arith) in
-    let p = c .before .find2 .ensures .place ∙ sym (s .0) in
-    rw e
-    (record {
-      is = p;
-      sound = c .remove .ensures .sound;
-      list = c .remove .ensures .list ∙ ap (λ (k : ℕ). cut k (listed (g .held))) (p ∙ sym (less (g .chosen)));
-    })
+    let g = c .before .before .before .before .before .before .before .before in
+    let a = g .args in
+    let f = c .before .before .find2 in
+    let l = c .before .locate in
+    let m = c .before .before .before .match .rest in
+    ended-stood (a .held) (a .stop) (a .work .now) (a .g) (a .r) (a .x) (g .pre .0) (omega (arith, m)) (f .result) (f .ensures .place)
+    (omega (arith, m, g .pre .0 .kind)) (l .result .rest) (l .ensures .rest) (c .remove .result) (c .remove .ensures .sound) (c .remove .ensures .list)
 
 pub stand-spec : {M : Type 1} → statement M
 stand-spec =
     tie.close
     (tie.spec
+    cast-b
+    cast-a
+    enter-requires
     insert-requires
+    cast-t21
     find-requires
-    cast-t11
+    cast-t22
     find-requires-2
+    locate-requires
     remove-requires
-    cast-t12
+    cast-t23
     returns
     returns-2
     returns-3)

@@ -1,63 +1,83 @@
--- `router::walk::walk` meets its contract. The loop's invariant is `Walking`: the run of the placing goes on from the order that is held. Assumes nothing.
-use Prim.Native.Nat.{_-_}
+-- `router::walk::walk` meets its contract. The loop's invariant is `Walks`: the places so far begin the first way, and the order is that of the rank. Assumes
+-- nothing.
 use mathlib.Core.Path.{refl}
-use native.Mathlib.Numerals.{add-one}
+use Prim.Native.Nat.{_-_}
 use native.Mathlib.Omega.{arith}
 use lib.ListN.{length}
-use Rattle.router.proofs.Walking.{Walking, places-long, kinds-long, walking-none, walking-standing, walking-more, walking-end}
+use Rattle.router.proofs.Walking.{Walks, walks-none, walks-standing, walks-more, walks-end}
 use Rattle.router.proofs.walk.walk.Statement.{statement}
 use Rattle.router.proofs.walk.walk.Tie as tie
 
 abbrev Inv-loop : tie.InvT-loop
-Inv-loop row kinds chosen ps₀ held₀ i₀ ps held i = Walking row kinds chosen ps held i
+Inv-loop row work kinds ages counts ku kl tables ps₀ held₀ r₀ i₀ ps held r i = Walks row kinds ages counts ku kl ps held i r
 
 abbrev μ-loop : tie.MeasureT-loop
-μ-loop row kinds chosen ps₀ held₀ i₀ ps held i = length row - i
+μ-loop row work kinds ages counts ku kl tables ps₀ held₀ r₀ i₀ ps held r i = length row - i
 
 new-requires : tie.Need-new-requires Inv-loop μ-loop
 new-requires c κs = tt
 
 loop-holds : tie.Need-loop-holds Inv-loop μ-loop
 loop-holds c =
-    let s = c .before .before .before .before in
-    let g = s .args in
-    walking-none (g .row .now) (g .kinds .now) (g .chosen .now) (s .pre) (c .new .result) _ refl (c .new .ensures)
+    let g = c .before .before .before .before .before .before .before in
+    let a = g .args in
+    let p = g .pre in
+    walks-none (a .row .now) (a .kinds .now) (a .ages .now) (a .counts .now) (a .ku) (a .kl) (a .work .now) (p .0) (p .1 .0) (p .1 .1 .1 .0)
+    (p .1 .1 .1 .1 .0) (p .1 .1 .0) (c .new .result) (c .new .ensures) _ refl
+
+stop-at-requires : tie.Need-stop-at-requires Inv-loop μ-loop
+stop-at-requires c κs =
+    let p = c .before .before .before .before .before .before .before .before .before .pre in
+    (omega (arith, p .1 .1 .1 .0 .long, c .loop-test .taken), p .0 .aged, p .0 .counted)
 
 shared-slice-read-stand : tie.Need-shared-slice-read-stand Inv-loop μ-loop
-shared-slice-read-stand c =
-    let s = c .before .before .before .before .before .before .before in
-    let g = s .args in
-    omega (arith, kinds-long (g .row .now) (g .kinds .now) (g .chosen .now) (s .pre))
-
-shared-slice-read-stand-2 : tie.Need-shared-slice-read-stand-2 Inv-loop μ-loop
-shared-slice-read-stand-2 c = omega arith
-
-shared-slice-read-stand-3 : tie.Need-shared-slice-read-stand-3 Inv-loop μ-loop
-shared-slice-read-stand-3 c =
-    let s = c .before .before .before .before .before .before .before .before .before in
-    let g = s .args in
-    omega (arith, places-long (g .row .now) (g .kinds .now) (g .chosen .now) (s .pre))
+shared-slice-read-stand c = omega arith
 
 stand-requires : tie.Need-stand-requires Inv-loop μ-loop
-stand-requires c κs = let l = c .before .before .before .before .loop in walking-standing (l .i) (l .inv) (omega arith)
+stand-requires c κs =
+    let g = c .before .before .before .before .before .before .before .before .before .before .before in
+    let a = g .args in
+    let p = g .pre in
+    let l = c .before .before .before .loop in
+    rw (c .before .stop-at .ensures) (
+      walks-standing (a .row .now) (a .kinds .now) (a .ages .now) (a .counts .now) (a .ku) (a .kl) (a .work .now) (p .0) (p .1 .0) (p .1 .1 .1 .0)
+          (p .1 .1 .1 .1 .0) (l .ps) (l .held) (l .i) (l .r) (l .inv) (c .before .before .loop-test .taken),
+      p .1 .1 .1 .1 .1,
+    )
 
 array-write-ps : tie.Need-array-write-ps Inv-loop μ-loop
-array-write-ps c = omega (arith, c .before .before .before .before .before .loop .inv .given .few)
+array-write-ps c =
+    let p = c .before .before .before .before .before .before .before .before .before .before .before .before .pre in
+    omega (arith, p .1 .1 .1 .0 .few, c .before .before .before .loop-test .taken)
 
 add-i : tie.Need-add-i Inv-loop μ-loop
-add-i c = omega arith
+add-i c = omega (arith, c .before .before .before .before .before .before .before .before .before .before .before .before .before .pre .1 .1 .1 .0 .few, c .before .before .before .before .loop-test .taken)
 
 loop-less : tie.Need-loop-less Inv-loop μ-loop
 loop-less c = omega arith
 
 loop-again : tie.Need-loop-again Inv-loop μ-loop
 loop-again c =
-    let l = c .before .before .before .before .before .before .loop in
+    let g = c .before .before .before .before .before .before .before .before .before .before .before .before .before in
+    let a = g .args in
+    let p = g .pre in
+    let l = c .before .before .before .before .before .loop in
     let t = c .before .stand in
-    rw (add-one (l .i)) (walking-more (l .i) (l .inv) (omega arith) (t .result .place) (t .result .held) (t .ensures))
+    walks-more (a .row .now) (a .kinds .now) (a .ages .now) (a .counts .now) (a .ku) (a .kl) (a .work .now) (p .0) (p .1 .0) (p .1 .1 .1 .0)
+    (p .1 .1 .1 .1 .0) (l .ps) (l .held) (l .i) (l .r) (l .inv) (c .before .before .before .before .loop-test .taken) (t .result .place) (t .result .rank) (t .result .held)
+    (rw (c .before .before .before .stop-at .ensures) at (t .ensures))
 
 returns : tie.Need-returns Inv-loop μ-loop
-returns c = let l = c .before .loop in walking-end (l .i) (l .inv) (omega arith)
+returns c =
+    let g = c .before .before .before .before .before .before .before .before .before in
+    let a = g .args in
+    let p = g .pre in
+    let l = c .before .loop in
+    record {
+      cells = l .inv .picks .cells;
+      first = walks-end (a .row .now) (a .kinds .now) (a .ages .now) (a .counts .now) (a .ku) (a .kl) (a .work .now) (p .0) (p .1 .0) (p .1 .1 .1 .0)
+          (p .1 .1 .1 .1 .0) (l .ps) (l .held) (l .i) (l .r) (l .inv) (c .loop-test .left);
+    }
 
 pub walk-spec : {M : Type 1} → statement M
 walk-spec =
@@ -67,9 +87,8 @@ walk-spec =
     μ-loop
     new-requires
     loop-holds
+    stop-at-requires
     shared-slice-read-stand
-    shared-slice-read-stand-2
-    shared-slice-read-stand-3
     stand-requires
     array-write-ps
     add-i
