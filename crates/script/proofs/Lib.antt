@@ -2,5 +2,6 @@
 pub mod Noting
 pub mod Renaming
 pub mod Touched
+pub mod ByKind
 pub mod Telling
 pub mod Passed

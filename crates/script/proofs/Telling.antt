@@ -208,13 +208,11 @@ module _ (row first last kinds ages counts : List ℕ) (held : Order) (i k : ℕ
       go false p = omega (arith, eqb-false (held .count) capacity p, t .sound .few)
 
   -- what a node asks of the open nets
-  pub telling-turning : (eqb k 0 && eqb (held .count) capacity) ≡ false → Turning held k (getD row i 0)
+  pub telling-turning : Turning held k (getD row i 0)
   unfolding x o home nodeAt kind
-  telling-turning test =
+  telling-turning =
       record {
         sound = t .sound;
-        small = kind-small;
-        room = room test;
         there = λ n.
             let q : before (home row i) o < length o =
             node-open row i h o (t .going .kept) (kind (nodeAt row i)) (home row i) (λ e. n (begun e)) refl in

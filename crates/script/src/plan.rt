@@ -1,16 +1,15 @@
 // The plan of a row: for each node its kind field, the age of its net, and how many nets are open before it.
 use street::CAPACITY;
 use street::Order;
-ghost use mathlib.Core.Path.{_≡_};
-ghost use mathlib.Core.Bool.{not, _&&_};
+ghost use mathlib.Core.Bool.{not};
 ghost use Prim.Native.Nat.{_≤_};
 ghost use lib.Dec.{eqb};
 ghost use lib.ListN.{length};
 ghost use Rattle.rules.specs.Row.{kindOf};
 ghost use Rattle.rules.specs.Sheet.{code};
-ghost use Rattle.street.specs.Order.{capacity};
+ghost use Rattle.street.specs.Order.{Sound};
 ghost use Rattle.script.specs.Tabled.{Tabled};
-ghost use Rattle.script.specs.Told.{Turning, Turned, Told};
+ghost use Rattle.script.specs.Told.{Turning, Turns, Told};
 
 // A plan, with a cell for each node that a row can have. Cells past the row's nodes are free, and so are those past a node that begins a
 // seventh open net: no order gets past it.
@@ -34,18 +33,16 @@ pub fn tell<'a>(row: &[u8], first: &'a [u16; 256], last: &'a [u16; 256]) -> Scri
     while i < row.len() {
         let x = row[i];
         let label = x as usize;
-        let kind = kind_at(i, first[label], last[label]);
-        let count = held.count;
-        kinds[i] = kind;
-        counts[i] = count as u8;
-        if full(kind, count) {
+        counts[i] = held.count as u8;
+        let turn = turn_at(held, i, first[label], last[label], x);
+        kinds[i] = turn.kind;
+        if turn.full {
             return Script {
                 kinds,
                 ages,
                 counts,
             };
         }
-        let turn = touch(held, kind, x);
         ages[i] = turn.age;
         held = turn.held;
         i += 1;
@@ -57,59 +54,60 @@ pub fn tell<'a>(row: &[u8], first: &'a [u16; 256], last: &'a [u16; 256]) -> Scri
     }
 }
 
-// The kind field of node i, whose net's first and last node are these.
-fn kind_at(i: usize, first: u16, last: u16) -> u8
-    ensures { λ r. ⌜ r ≡ code (kindOf (eqb first i) (not (eqb last i))) ⌝ }
-{
-    if first as usize == i {
-        return 0;
-    }
-    if last as usize == i {
-        return 2;
-    }
-    1
-}
-
-// A node of this kind begins a net, and no more can be open.
-fn full(kind: u8, count: usize) -> bool
-    ensures { λ r. ⌜ r ≡ (eqb kind 0 && eqb count capacity) ⌝ }
-{
-    if kind == 0 {
-        return count == CAPACITY;
-    }
-    false
-}
-
-// What a node does: the age of its net, and the open nets after it, youngest first.
+// What a node does: its kind field, whether it begins a net where no more can be open, and where not the age of its net and the open nets after it,
+// youngest first.
 struct Turn {
+    kind: u8,
+    full: bool,
     age: u8,
     held: Order,
 }
 
-// A node of the net with label x, by its kind field.
-fn touch(held: Order, kind: u8, x: u8) -> Turn
-    requires { ⌜ Turning held kind x ⌝ }
-    ensures { λ r. ⌜ Turned held kind x (r .age) (r .held) ⌝ }
+// Node i, of the net with label x, whose first and last node are these. A branch for each kind: the code then takes few instructions wherever it stands.
+fn turn_at(held: Order, i: usize, first: u16, last: u16, x: u8) -> Turn
+    requires { ⌜ Turning held (code (kindOf (eqb first i) (not (eqb last i)))) x ⌝ }
+    ensures { λ r. ⌜ Turns held (code (kindOf (eqb first i) (not (eqb last i)))) x (r .kind) (r .full) (r .age) (r .held) ⌝ }
 {
-    match kind {
-        0 => {
-            let next = held.insert(0, x);
-            Turn { age: 0, held: next }
-        }
-        1 => {
-            let age = held.find(x);
-            Turn {
-                age: age as u8,
-                held,
-            }
-        }
-        _ => {
-            let age = held.find(x);
-            let next = held.remove(age);
-            Turn {
-                age: age as u8,
-                held: next,
-            }
-        }
+    if first as usize == i {
+        return begin(held, x);
+    }
+    let age = held.find(x);
+    if last as usize == i {
+        let next = held.remove(age);
+        return Turn {
+            kind: 2,
+            full: false,
+            age: age as u8,
+            held: next,
+        };
+    }
+    Turn {
+        kind: 1,
+        full: false,
+        age: age as u8,
+        held,
+    }
+}
+
+// A node that begins the net with label x.
+fn begin(held: Order, x: u8) -> Turn
+    requires { ⌜ Sound held ⌝ }
+    ensures { λ r. ⌜ Turns held 0 x (r .kind) (r .full) (r .age) (r .held) ⌝ }
+{
+    let count = held.count;
+    if count == CAPACITY {
+        return Turn {
+            kind: 0,
+            full: true,
+            age: 0,
+            held,
+        };
+    }
+    let next = held.insert(0, x);
+    Turn {
+        kind: 0,
+        full: false,
+        age: 0,
+        held: next,
     }
 }

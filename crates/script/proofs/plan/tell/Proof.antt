@@ -1,5 +1,5 @@
 -- `script::plan::tell` meets its contract. The loop's invariant is `Telling`: the plan of the nodes passed goes before that of the rest. Assumes nothing.
-use mathlib.Core.Path.{sym, _∙_}
+use mathlib.Core.Path.{refl, sym, _∙_}
 use Prim.Native.Nat.{_-_}
 use native.Mathlib.Numerals.{add-one}
 use native.Mathlib.Omega.{arith}
@@ -26,48 +26,42 @@ shared-slice-read-x c = omega arith
 cast-label : tie.Need-cast-label Inv-loop μ-loop
 cast-label c = omega (arith, c .shared-slice-known2 .given (c .before .before .loop .i))
 
-mul-kind-at : tie.Need-mul-kind-at Inv-loop μ-loop
-mul-kind-at c = omega (arith, c .shared-slice-known2 .given (c .before .before .loop .i))
-
-element-copy-out-kind-at : tie.Need-element-copy-out-kind-at Inv-loop μ-loop
-element-copy-out-kind-at c = omega (arith, c .shared-slice-known2 .given (c .before .before .loop .i))
-
-mul-kind-at-2 : tie.Need-mul-kind-at-2 Inv-loop μ-loop
-mul-kind-at-2 c = omega (arith, c .before .shared-slice-known2 .given (c .before .before .before .loop .i))
-
-element-copy-out-kind-at-2 : tie.Need-element-copy-out-kind-at-2 Inv-loop μ-loop
-element-copy-out-kind-at-2 c = omega (arith, c .before .shared-slice-known2 .given (c .before .before .before .loop .i))
-
-kind-at-requires : tie.Need-kind-at-requires Inv-loop μ-loop
-kind-at-requires c κs = tt
-
-array-write-kinds : tie.Need-array-write-kinds Inv-loop μ-loop
-array-write-kinds c = omega arith
-
 cast-counts : tie.Need-cast-counts Inv-loop μ-loop
-cast-counts c = omega (arith, c .before .before .before .before .before .loop .inv .sound .few)
+cast-counts c = omega (arith, c .before .before .before .loop .inv .sound .few)
 
 array-write-counts : tie.Need-array-write-counts Inv-loop μ-loop
 array-write-counts c = omega arith
 
-full-requires : tie.Need-full-requires Inv-loop μ-loop
-full-requires c κs = tt
+mul-turn-at : tie.Need-mul-turn-at Inv-loop μ-loop
+mul-turn-at c = omega (arith, c .before .shared-slice-known2 .given (c .before .before .before .loop .i))
+
+element-copy-out-turn-at : tie.Need-element-copy-out-turn-at Inv-loop μ-loop
+element-copy-out-turn-at c = omega (arith, c .before .shared-slice-known2 .given (c .before .before .before .loop .i))
+
+mul-turn-at-2 : tie.Need-mul-turn-at-2 Inv-loop μ-loop
+mul-turn-at-2 c = omega (arith, c .before .before .shared-slice-known2 .given (c .before .before .before .before .loop .i))
+
+element-copy-out-turn-at-2 : tie.Need-element-copy-out-turn-at-2 Inv-loop μ-loop
+element-copy-out-turn-at-2 c = omega (arith, c .before .before .shared-slice-known2 .given (c .before .before .before .before .loop .i))
+
+turn-at-requires : tie.Need-turn-at-requires Inv-loop μ-loop
+turn-at-requires c κs =
+    let s = c .before .before .before .before .before .before .before .before in
+    let g = s .args in
+    let l = c .before .before .before .before .before .loop in
+    telling-turning (g .row .now) (g .first .now) (g .last .now) (l .kinds) (l .ages) (l .counts) (l .held) (l .i) _ (s .pre .1) (s .pre .0) (l .inv) (omega arith) refl
+
+array-write-kinds : tie.Need-array-write-kinds Inv-loop μ-loop
+array-write-kinds c = omega arith
 
 returns : tie.Need-returns Inv-loop μ-loop
 returns c =
     let s = c .before .before .before .before .before .before .before .before .before .before in
     let g = s .args in
     let l = c .before .before .before .before .before .before .before .loop in
-    let kind = c .before .before .kind-at in
-    telling-full (g .row .now) (g .first .now) (g .last .now) (l .kinds) (l .ages) (l .counts) (l .held) (l .i) (kind .result) (s .pre .1) (s .pre .0) (l .inv) (omega arith) (kind .ensures) (sym (c .before .full .ensures) ∙ c .if1 .taken)
-
-touch-requires : tie.Need-touch-requires Inv-loop μ-loop
-touch-requires c κs =
-    let s = c .before .before .before .before .before .before .before .before .before .before in
-    let g = s .args in
-    let l = c .before .before .before .before .before .before .before .loop in
-    let kind = c .before .before .kind-at in
-    telling-turning (g .row .now) (g .first .now) (g .last .now) (l .kinds) (l .ages) (l .counts) (l .held) (l .i) (kind .result) (s .pre .1) (s .pre .0) (l .inv) (omega arith) (kind .ensures) (sym (c .before .full .ensures) ∙ c .if1 .left)
+    let t = c .before .turn-at in
+    telling-full (g .row .now) (g .first .now) (g .last .now) (l .kinds) (l .ages) (l .counts) (l .held) (l .i) (t .result .kind) (s .pre .1) (s .pre .0) (l .inv) (omega arith) (t .ensures .kind-is)
+    (rw (t .ensures .kind-is) (sym (t .ensures .full-is) ∙ c .if1 .taken))
 
 array-write-ages : tie.Need-array-write-ages Inv-loop μ-loop
 array-write-ages c = omega arith
@@ -80,12 +74,14 @@ loop-less c = omega arith
 
 loop-again : tie.Need-loop-again Inv-loop μ-loop
 loop-again c =
-    let s = c .before .before .before .before .before .before .before .before .before .before .before .before in
+    let s = c .before .before .before .before .before .before .before .before .before .before .before in
     let g = s .args in
-    let l = c .before .before .before .before .before .before .before .before .before .loop in
-    let kind = c .before .before .before .before .kind-at in
-    let turn = c .before .touch in
-    rw (add-one (l .i)) (telling-more (g .row .now) (g .first .now) (g .last .now) (l .kinds) (l .ages) (l .counts) (l .held) (l .i) (kind .result) (s .pre .1) (s .pre .0) (l .inv) (omega arith) (kind .ensures) (sym (c .before .before .before .full .ensures) ∙ c .before .before .if1 .left) (turn .result .age) (turn .result .held) (turn .ensures))
+    let l = c .before .before .before .before .before .before .before .before .loop in
+    let t = c .before .before .turn-at in
+    rw (add-one (l .i))
+    (telling-more (g .row .now) (g .first .now) (g .last .now) (l .kinds) (l .ages) (l .counts) (l .held) (l .i) (t .result .kind) (s .pre .1) (s .pre .0) (l .inv) (omega arith) (t .ensures .kind-is)
+    (rw (t .ensures .kind-is) (sym (t .ensures .full-is) ∙ c .before .if1 .left)) (t .result .age) (t .result .held)
+    (rw (t .ensures .kind-is) (t .ensures .turned (c .before .if1 .left))))
 
 returns-2 : tie.Need-returns-2 Inv-loop μ-loop
 returns-2 c =
@@ -103,17 +99,15 @@ tell-spec =
     loop-holds
     shared-slice-read-x
     cast-label
-    mul-kind-at
-    element-copy-out-kind-at
-    mul-kind-at-2
-    element-copy-out-kind-at-2
-    kind-at-requires
-    array-write-kinds
     cast-counts
     array-write-counts
-    full-requires
+    mul-turn-at
+    element-copy-out-turn-at
+    mul-turn-at-2
+    element-copy-out-turn-at-2
+    turn-at-requires
+    array-write-kinds
     returns
-    touch-requires
     array-write-ages
     add-i
     loop-less
