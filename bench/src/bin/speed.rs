@@ -1,7 +1,8 @@
 //! Times the library and the routers that it is compared with, in one run on the same rows.
 //!
 //! `speed [ROWS]` checks that library, words and depth first answer every row alike, then prints
-//! for each street pair, n and class the nanoseconds a node; ROWS is `rows.txt` if not given.
+//! for each street pair, n and class the nanoseconds a node; ROWS is `rows.txt` if not given. Built
+//! with the feature `shifted` the library's code stands 16 bytes further on, which times show.
 //!
 //! `speed count [ROWS]` calls words, depth first and published once a row, for callgrind to count
 //! the instructions inside each call. It prints a line for each part that callgrind writes: the
@@ -18,6 +19,15 @@ use niraflue::Said;
 use std::collections::BTreeMap;
 use std::hint::black_box;
 use std::time::{Duration, Instant};
+
+// Sixteen bytes before the library's code, so that its loops stand elsewhere in the lines of the instruction cache.
+#[cfg(feature = "shifted")]
+std::arch::global_asm!(
+    ".pushsection .text.shift,\"axR\",@progbits",
+    ".p2align 4",
+    ".skip 16, 0x90",
+    ".popsection"
+);
 
 #[path = "../routers/mod.rs"]
 mod routers;
@@ -166,8 +176,11 @@ fn print_table(rows: &[Row]) {
         "{:>10}{:>10}{:>13}{:>11}{:>15}",
         "library", "words", "depth first", "published", "library/words"
     );
+    let mut whole = [0.0; 2];
     for ((ku, kl, n, class), rows) in groups.iter().rev() {
         let [library, words, depth_first, published] = measure(rows);
+        let nodes = (n * rows.len()) as f64;
+        whole = [whole[0] + library * nodes, whole[1] + words * nodes];
         let published = if published.is_finite() {
             format!("{published:.1}")
         } else {
@@ -175,10 +188,11 @@ fn print_table(rows: &[Row]) {
         };
         print!("{:8}{n:4}  {class:6}{:5}", format!("{ku}/{kl}"), rows.len());
         println!(
-            "{library:10.1}{words:10.1}{depth_first:13.1}{published:>11}{:15.1}",
+            "{library:10.1}{words:10.1}{depth_first:13.1}{published:>11}{:15.2}",
             library / words
         );
     }
+    println!("library/words over all rows {:.2}", whole[0] / whole[1]);
 }
 
 /// Calls each router but the library once a row, with a line for each call.
