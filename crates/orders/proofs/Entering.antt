@@ -9,19 +9,19 @@ use native.Mathlib.Numerals.{add-one}
 use native.Mathlib.Omega.{arith}
 use Rattle.rules.specs.Street.{fits}
 use Rattle.rules.proofs.Fits.{Fits}
-use Rattle.orders.specs.declared.rank.Stop.{Stop}
-use Rattle.orders.specs.Ranks.{capacity, fact, RankOf}
-use Rattle.orders.specs.Sets.{wordAt, bit, marked}
-use Rattle.orders.specs.Stops.{hopAt, Sound}
-use Rattle.orders.specs.Passes.{Led, Onward, Least}
-use Rattle.orders.specs.Opening.{Somewhere, Entry}
-use Rattle.orders.proofs.Ranks.{fact-most, fact-of-four, fact-of-five, rank-lt, rank-digit}
-use Rattle.orders.proofs.Slots.{held-below}
-use Rattle.orders.proofs.Bits.{not-both, marked-held}
-use Rattle.orders.proofs.Hops.{fits-fits, stop-lands}
-use Rattle.orders.proofs.Spreading.{last-or}
-use Rattle.orders.proofs.OpeningSteps.{begun, begun-only}
-use Rattle.orders.proofs.OpeningBack.{low-mark, fifth-mark, sixth-two}
+use Rattle.steps.specs.declared.rank.Stop.{Stop}
+use Rattle.steps.specs.Ranks.{capacity, fact, RankOf}
+use Rattle.steps.specs.Sets.{wordAt, bit, marked}
+use Rattle.steps.specs.Stops.{hopAt, Sound}
+use Rattle.steps.specs.Leading.{Led, Onward, Least}
+use Rattle.steps.specs.Opening.{Somewhere, Entry}
+use Rattle.steps.proofs.Ranks.{fact-most, fact-of-four, fact-of-five, rank-lt, rank-digit}
+use Rattle.steps.proofs.Slots.{held-below}
+use Rattle.steps.proofs.Bits.{not-both, marked-held}
+use Rattle.steps.proofs.Hops.{fits-fits, stop-lands}
+use Rattle.steps.proofs.Spreading.{last-or}
+use Rattle.steps.proofs.OpeningSteps.{begun, begun-only}
+use Rattle.steps.proofs.OpeningBack.{low-mark, fifth-mark, sixth-two}
 
 -- a B, with marks that hops of it made
 module _ (t : Stop) (s : List ℕ) (g r : ℕ) (sound : Sound t) (kind : t .kind ≡ 0) (low : r < fact (t .count))

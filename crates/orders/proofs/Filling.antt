@@ -7,15 +7,16 @@ use native.Mathlib.Numerals.{add-one}
 use native.Mathlib.Omega.{arith}
 use lib.ListN.{length, getD, take}
 use borrow.Author.Tests.{eqb-true, eq-eqb}
-use Rattle.orders.specs.Plan.{Step, steps}
-use Rattle.orders.specs.Ranks.{RankOf, Way}
-use Rattle.orders.specs.Sets.{ranks, marked, source, Exactly, Empty, Some, Loses}
-use Rattle.orders.specs.Stops.{stopOf}
-use Rattle.orders.specs.Passes.{Reached, Given, Filled, Passable, Forward}
-use Rattle.orders.proofs.Ranks.{fact-six}
-use Rattle.orders.proofs.Slots.{held-below}
-use Rattle.orders.proofs.Bits.{source-held}
-use Rattle.orders.proofs.Spreading.{last-or}
+use Rattle.steps.specs.Plan.{Step, steps}
+use Rattle.steps.specs.Ranks.{RankOf, Way}
+use Rattle.steps.specs.Sets.{ranks, marked, source, Exactly, Empty, Some, Loses}
+use Rattle.steps.specs.Stops.{stopOf}
+use Rattle.steps.specs.Leading.{Reached}
+use Rattle.orders.specs.Passes.{Given, Filled, Passable, Forward}
+use Rattle.steps.proofs.Ranks.{fact-six}
+use Rattle.steps.proofs.Slots.{held-below}
+use Rattle.steps.proofs.Bits.{source-held}
+use Rattle.steps.proofs.Spreading.{last-or}
 use Rattle.orders.proofs.Ways.{way-start, way-none, steps-length}
 use Rattle.orders.proofs.Nodes.{way-on, way-back, stop-ready, rank-below}
 

@@ -5,7 +5,7 @@ use Prim.Native.Nat.{ℕ, suc, _≤_}
 use native.Mathlib.Omega.{arith}
 use lib.ListN.{length, take}
 use lib.Seq.{take-all, take-take}
-use Rattle.orders.specs.Plan.{Step, steps}
+use Rattle.steps.specs.Plan.{Step, steps}
 use Rattle.orders.specs.Passes.{Given, Filled, Passable, Forward, Pruned, Kept}
 use Rattle.orders.proofs.Ways.{passes-take, steps-length}
 use Rattle.orders.proofs.Nodes.{rank-below}

@@ -5,11 +5,12 @@ use Prim.Native.Nat.{ℕ, zero, suc, _<_}
 use native.Mathlib.Omega.{arith}
 use lib.ListN.{length, getD, take, drop}
 use lib.Seq.{drop-cons}
-use Rattle.orders.specs.Plan.{Step, step, steps}
-use Rattle.orders.specs.Ranks.{RankOf, Way, Ahead}
-use Rattle.orders.specs.Sets.{ranks}
-use Rattle.orders.specs.Stops.{stepOf, stopOf, Sound}
-use Rattle.orders.specs.Passes.{Leads, Given, Passable}
+use Rattle.steps.specs.Plan.{Step, step, steps}
+use Rattle.steps.specs.Ranks.{RankOf, Way, Ahead}
+use Rattle.steps.specs.Sets.{ranks}
+use Rattle.steps.specs.Stops.{stepOf, stopOf, Sound}
+use Rattle.steps.specs.Leading.{Leads}
+use Rattle.orders.specs.Passes.{Given, Passable}
 use Rattle.orders.proofs.Ways.{Hopped, first-begins, way-more, way-less, ahead-more, ahead-less, way-ready, way-below, passes-take, steps-length, steps-at}
 
 module _ (ks xs cs : List ℕ) (ku kl : ℕ) where

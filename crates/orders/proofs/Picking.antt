@@ -12,14 +12,15 @@ use lib.Seq.{take-suc-set, append-snoc, drop-cons}
 use lib.Dec.{eqb, ltb}
 use borrow.Author.Tests.{eqb-true, eqb-false, ltb-true, ltb-false}
 use Rattle.rules.specs.Street.{Earlier, here, there}
-use Rattle.orders.specs.Plan.{Step, step, steps}
-use Rattle.orders.specs.Ranks.{hopOf, hops, Way, Ahead}
-use Rattle.orders.specs.Sets.{ranks, marked}
-use Rattle.orders.specs.Stops.{stopOf, stepOf, hopAt}
-use Rattle.orders.specs.Passes.{Led, Onward, Least, Given, Kept, Passable, First}
-use Rattle.orders.proofs.Slots.{held-below}
-use Rattle.orders.proofs.Bits.{marked-held}
-use Rattle.orders.proofs.Hops.{hop-made, same-some}
+use Rattle.steps.specs.Plan.{Step, step, steps}
+use Rattle.steps.specs.Ranks.{hopOf, hops, Way, Ahead}
+use Rattle.steps.specs.Sets.{ranks, marked}
+use Rattle.steps.specs.Stops.{stopOf, stepOf, hopAt}
+use Rattle.steps.specs.Leading.{Led, Onward, Least}
+use Rattle.orders.specs.Passes.{Given, Kept, Passable, First}
+use Rattle.steps.proofs.Slots.{held-below}
+use Rattle.steps.proofs.Bits.{marked-held}
+use Rattle.steps.proofs.Hops.{hop-made, same-some}
 use Rattle.orders.proofs.Ways.{hops-nil, hops-start, hops-first, first-hops, way-start, passes-ahead, steps-length, steps-at}
 use Rattle.orders.proofs.Nodes.{way-on, way-back, ahead-back, stop-ready, rank-below}
 

@@ -7,13 +7,14 @@ use native.Mathlib.Omega.{arith}
 use lib.ListN.{length, getD, drop, drop-of-length-le}
 use lib.Dec.{eqb}
 use borrow.Author.Tests.{eqb-true, eqb-false}
-use Rattle.orders.specs.Plan.{Step, steps}
-use Rattle.orders.specs.Ranks.{RankOf, Ahead}
-use Rattle.orders.specs.Sets.{ranks, marked, source, Loses}
-use Rattle.orders.specs.Stops.{stopOf}
-use Rattle.orders.specs.Passes.{Onward, Reached, Given, Filled, Pruned}
-use Rattle.orders.proofs.Slots.{held-below}
-use Rattle.orders.proofs.Bits.{marked-held, source-gap}
+use Rattle.steps.specs.Plan.{Step, steps}
+use Rattle.steps.specs.Ranks.{RankOf, Ahead}
+use Rattle.steps.specs.Sets.{ranks, marked, source, Loses}
+use Rattle.steps.specs.Stops.{stopOf}
+use Rattle.steps.specs.Leading.{Onward, Reached}
+use Rattle.orders.specs.Passes.{Given, Filled, Pruned}
+use Rattle.steps.proofs.Slots.{held-below}
+use Rattle.steps.proofs.Bits.{marked-held, source-gap}
 use Rattle.orders.proofs.Ways.{ahead-none, steps-length}
 use Rattle.orders.proofs.Nodes.{way-on, way-back, ahead-on, ahead-back, stop-ready, rank-below}
 

@@ -9,14 +9,14 @@ use lib.Dec.{eqb}
 use borrow.Author.Tests.{eqb-true, eqb-false, ne-eqb}
 use Rattle.rules.specs.Basic.{keep}
 use Rattle.rules.specs.Street.{fits}
-use Rattle.orders.specs.declared.rank.Stop.{Stop}
-use Rattle.orders.specs.Plan.{step}
-use Rattle.orders.specs.Ranks.{fact, atOf, lessOf, hopOf}
-use Rattle.orders.specs.Sets.{marked, Loses}
-use Rattle.orders.specs.Stops.{hopAt, Sound}
-use Rattle.orders.specs.Passes.{Onward, Misses, Least}
-use Rattle.orders.proofs.Hops.{kept, stop-lands, none-some}
-use Rattle.orders.proofs.Gains.{loses-map}
+use Rattle.steps.specs.declared.rank.Stop.{Stop}
+use Rattle.steps.specs.Plan.{step}
+use Rattle.steps.specs.Ranks.{fact, atOf, lessOf, hopOf}
+use Rattle.steps.specs.Sets.{marked, Loses}
+use Rattle.steps.specs.Stops.{hopAt, Sound}
+use Rattle.steps.specs.Leading.{Onward, Misses, Least}
+use Rattle.steps.proofs.Hops.{kept, stop-lands, none-some}
+use Rattle.steps.proofs.Gains.{loses-map}
 
 -- the rank after a node of kind 1 or 2
 abbrev pub after : (kind a b r : ℕ) → ℕ

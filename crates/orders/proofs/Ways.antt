@@ -10,12 +10,12 @@ use Rattle.rules.specs.Basic.{andThen}
 use Rattle.rules.proofs.Pins.{length-tabulate, getD-tabulate}
 use Rattle.rules.specs.Sheet.{kindIn}
 use Rattle.rules.specs.Judgement.{left}
-use Rattle.orders.specs.Plan.{Step, step, Steps, nil, full, begins, meet, steps}
-use Rattle.orders.specs.Ranks.{hopOf, hops, openAfter, RankOf, Way, Ahead}
-use Rattle.orders.specs.Sets.{ranks}
+use Rattle.steps.specs.Plan.{Step, step, Steps, nil, full, begins, meet, steps}
+use Rattle.steps.specs.Ranks.{hopOf, hops, openAfter, RankOf, Way, Ahead}
+use Rattle.steps.specs.Sets.{ranks}
 use Rattle.orders.specs.Passes.{Passable}
-use Rattle.orders.proofs.Ranks.{fact-pos, fact-six}
-use Rattle.orders.proofs.Hops.{hop-made, hop-middle}
+use Rattle.steps.proofs.Ranks.{fact-pos, fact-six}
+use Rattle.steps.proofs.Hops.{hop-made, hop-middle}
 
 -- one hop: from rank r through the step s to rank x
 pub record Hopped (ku kl : ℕ) (s : Step) (r x : ℕ) : Type 0 where

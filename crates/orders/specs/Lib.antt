@@ -1,8 +1,1 @@
-pub mod Plan
-pub mod Ranks
-pub mod Sets
-pub mod Stops
 pub mod Passes
-pub mod Four
-pub mod Masks
-pub mod Opening

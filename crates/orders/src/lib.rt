@@ -1,10 +1,4 @@
-// Sets of orders, as marks on ranks in lent bytes, and the passes of the router over them.
-pub mod end;
-pub mod four;
-pub mod open;
+// The passes of the router over sets of orders, forward and back, and the bytes that the sets stand in.
 pub mod pass;
-pub mod rank;
 pub mod reach;
 pub mod set;
-pub mod touch;
-pub mod word;

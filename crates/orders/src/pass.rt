@@ -1,25 +1,26 @@
 // The router's passes over the sets of ranks, forward and back to prune, and what its last pass asks them.
-use crate::end::unend;
-use crate::open::clear;
-use crate::open::unopen;
-use crate::rank::Place;
-use crate::rank::Stop;
-use crate::rank::factorial;
 use crate::reach::spread;
-use crate::touch::prune_touched;
-use crate::word::word;
+use steps::end::unend;
+use steps::open::clear;
+use steps::open::unopen;
+use steps::rank::Place;
+use steps::rank::Stop;
+use steps::rank::factorial;
+use steps::touch::prune_touched;
+use steps::word::word;
 ghost use mathlib.Core.Path.{_≡_};
 ghost use mathlib.Core.Bool.{true};
 ghost use Prim.Native.Nat.{ℕ, suc, _*_, _≤_, _<_};
 ghost use lib.ListN.{length};
-ghost use Rattle.orders.specs.Plan.{steps};
-ghost use Rattle.orders.specs.Ranks.{capacity, fact, RankOf};
-ghost use Rattle.orders.specs.Sets.{stretch, bit, marked, Loses};
-ghost use Rattle.orders.specs.Stops.{Sound, stopOf};
-ghost use Rattle.orders.specs.Four.{Tables};
-ghost use Rattle.orders.specs.Masks.{Sources};
-ghost use Rattle.orders.specs.Opening.{Somewhere, Entry};
-ghost use Rattle.orders.specs.Passes.{Led, Onward, Reached, Least, Given, Forward, Filled, Passable, Pruned, Kept, Picked};
+ghost use Rattle.steps.specs.Plan.{steps};
+ghost use Rattle.steps.specs.Ranks.{capacity, fact, RankOf};
+ghost use Rattle.steps.specs.Sets.{stretch, bit, marked, Loses};
+ghost use Rattle.steps.specs.Stops.{Sound, stopOf};
+ghost use Rattle.steps.specs.Four.{Tables};
+ghost use Rattle.steps.specs.Masks.{Sources};
+ghost use Rattle.steps.specs.Opening.{Somewhere, Entry};
+ghost use Rattle.steps.specs.Leading.{Led, Onward, Reached, Least};
+ghost use Rattle.orders.specs.Passes.{Given, Forward, Filled, Passable, Pruned, Kept, Picked};
 
 // The position of each node, from 0.
 pub struct Positions {

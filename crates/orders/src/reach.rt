@@ -1,15 +1,15 @@
 // One node forward: marks in the gap after it every rank that it leads to.
-use crate::end::end;
-use crate::open::open;
-use crate::rank::Stop;
-use crate::touch::touch;
+use steps::end::end;
+use steps::open::open;
+use steps::rank::Stop;
+use steps::touch::touch;
 ghost use Prim.Native.Nat.{suc, _*_, _≤_, _<_};
 ghost use lib.ListN.{length};
-ghost use Rattle.orders.specs.Sets.{stretch, Empty, Bare, Exactly};
-ghost use Rattle.orders.specs.Stops.{Sound};
-ghost use Rattle.orders.specs.Four.{Tables};
-ghost use Rattle.orders.specs.Masks.{Sources};
-ghost use Rattle.orders.specs.Passes.{Reached};
+ghost use Rattle.steps.specs.Sets.{stretch, Empty, Bare, Exactly};
+ghost use Rattle.steps.specs.Stops.{Sound};
+ghost use Rattle.steps.specs.Four.{Tables};
+ghost use Rattle.steps.specs.Masks.{Sources};
+ghost use Rattle.steps.specs.Leading.{Reached};
 
 // Marks in gap g, which is empty, every rank that node g leads to from the ranks before it, and tells whether there is none.
 pub fn spread(work: &mut [u8], g: usize, stop: Stop, tables: &[u32]) -> bool

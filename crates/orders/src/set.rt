@@ -1,7 +1,7 @@
 // Clearing the lent bytes that the sets stand in.
 ghost use mathlib.Core.Path.{_≡_};
 ghost use lib.ListN.{length};
-ghost use Rattle.orders.specs.Sets.{Clear};
+ghost use Rattle.steps.specs.Sets.{Clear};
 
 // Clears all of the bytes.
 pub fn wipe(work: &mut [u8])

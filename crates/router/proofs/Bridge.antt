@@ -23,10 +23,10 @@ use Rattle.rules.proofs.Open.{times, times-cut, one, one-other, onto, ends-empt
 use Rattle.rules.proofs.Legal.{Own, kindIn-code}
 use Rattle.rules.proofs.Accepted.{nodes-own}
 use Rattle.rules.proofs.Failing.{passes-take}
-use Rattle.orders.specs.Plan.{Step, step, young, age, Steps, Tells}
-use Rattle.orders.specs.Ranks.{fact, orderOf, atOf, lessOf, hopOf, hops}
-use Rattle.orders.proofs.Hops.{hop-made}
-use Rattle.orders.proofs.Ranks.{Distinct, rank-lt, less-lt, at-lt, order-length, order-put, order-at, order-less}
+use Rattle.steps.specs.Plan.{Step, step, young, age, Steps, Tells}
+use Rattle.steps.specs.Ranks.{fact, orderOf, atOf, lessOf, hopOf, hops}
+use Rattle.steps.proofs.Hops.{hop-made}
+use Rattle.steps.proofs.Ranks.{Distinct, rank-lt, less-lt, at-lt, order-length, order-put, order-at, order-less}
 
 module _ (ku kl : ℕ) where
   -- a step of the street rules at the order of a rank is a hop

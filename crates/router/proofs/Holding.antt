@@ -23,8 +23,8 @@ use Rattle.rules.proofs.Accepted.{length-nodes}
 use Rattle.street.specs.declared.Order.{Order}
 use Rattle.street.specs.Order.{capacity, listed, Sound, Emptied}
 use Rattle.street.proofs.Orders.{length-listed}
-use Rattle.orders.specs.Plan.{Step, step, Steps, Tells}
-use Rattle.orders.specs.Ranks.{orderOf, hopOf, hops}
+use Rattle.steps.specs.Plan.{Step, step, Steps, Tells}
+use Rattle.steps.specs.Ranks.{orderOf, hopOf, hops}
 use Rattle.orders.proofs.Ways.{hops-start, hop-last}
 use Rattle.router.specs.Walk.{Placed}
 use Rattle.router.proofs.Bridge.{youngs, runs-as-hops, length-told}

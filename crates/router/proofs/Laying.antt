@@ -22,9 +22,9 @@ use Rattle.rules.proofs.Failing.{stops-failing}
 use Rattle.rules.proofs.NoPlacing.{stops-stuck}
 use Rattle.rules.proofs.Accepted.{length-nodes}
 use Rattle.rules.proofs.Demand3.{Fit}
-use Rattle.orders.specs.Plan.{Step, steps, Steps, Tells}
-use Rattle.orders.specs.Ranks.{hops, Way}
-use Rattle.orders.specs.Sets.{Clear}
+use Rattle.steps.specs.Plan.{Step, steps, Steps, Tells}
+use Rattle.steps.specs.Ranks.{hops, Way}
+use Rattle.steps.specs.Sets.{Clear}
 use Rattle.orders.specs.Passes.{Given, First}
 use Rattle.orders.proofs.Ways.{steps-length}
 use Rattle.script.specs.Told.{Told}

@@ -7,7 +7,7 @@ use lib.ListN.{length}
 use Rattle.rules.specs.Row.{Node, nodes}
 use Rattle.rules.specs.Street.{kind}
 use Rattle.rules.specs.Sheet.{code}
-use Rattle.orders.specs.Plan.{steps}
+use Rattle.steps.specs.Plan.{steps}
 use Rattle.orders.specs.Passes.{Forward, Given, Passable}
 use Rattle.orders.proofs.Ways.{steps-length}
 use Rattle.script.proofs.Passed.{plan-kinds}

@@ -8,11 +8,11 @@ use Rattle.rules.specs.Street.{next}
 use Rattle.rules.specs.Sheet.{kindIn}
 use Rattle.street.specs.declared.Order.{Order}
 use Rattle.street.specs.Order.{capacity, listed, Sound}
-use Rattle.orders.specs.declared.rank.Stop.{Stop}
-use Rattle.orders.specs.Ranks.{lessOf}
-use Rattle.orders.specs.Sets.{marked}
-use Rattle.orders.specs.Opening.{Entry}
-use Rattle.orders.specs.Passes.{Least}
+use Rattle.steps.specs.declared.rank.Stop.{Stop}
+use Rattle.steps.specs.Ranks.{lessOf}
+use Rattle.steps.specs.Sets.{marked}
+use Rattle.steps.specs.Opening.{Entry}
+use Rattle.steps.specs.Leading.{Least}
 use Rattle.orders.proofs.Staying.{after-touch, after-end, stays}
 use Rattle.orders.proofs.Entering.{enters}
 use Rattle.router.specs.Walk.{Placed, Standing, Stood}

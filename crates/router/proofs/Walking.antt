@@ -12,10 +12,10 @@ use Rattle.rules.specs.Sheet.{code, kindIn}
 use Rattle.rules.proofs.Legal.{kindIn-code}
 use Rattle.street.specs.declared.Order.{Order}
 use Rattle.street.specs.Order.{listed, Emptied}
-use Rattle.orders.specs.declared.rank.Stop.{Stop}
-use Rattle.orders.specs.Plan.{Step, step, steps}
-use Rattle.orders.specs.Ranks.{hopOf}
-use Rattle.orders.specs.Stops.{stopOf, stepOf, hopAt}
+use Rattle.steps.specs.declared.rank.Stop.{Stop}
+use Rattle.steps.specs.Plan.{Step, step, steps}
+use Rattle.steps.specs.Ranks.{hopOf}
+use Rattle.steps.specs.Stops.{stopOf, stepOf, hopAt}
 use Rattle.orders.specs.Passes.{Given, Kept, Passable, First}
 use Rattle.orders.proofs.Ways.{steps-at, steps-length}
 use Rattle.orders.proofs.Nodes.{stop-ready}

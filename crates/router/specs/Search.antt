@@ -3,8 +3,8 @@ use mathlib.Core.Path.{_≡_}
 use mathlib.Core.List.{List}
 use Prim.Native.Nat.{ℕ, suc, _<_, _≤_}
 use lib.ListN.{length, take}
-use Rattle.orders.specs.Plan.{Step}
-use Rattle.orders.specs.Sets.{Clear}
+use Rattle.steps.specs.Plan.{Step}
+use Rattle.steps.specs.Sets.{Clear}
 use Rattle.orders.specs.Passes.{Passable, First}
 
 pub record Searched (ku kl : ℕ) (ss : List Step) (work after : List ℕ) (passed : ℕ) (ps : List ℕ) : Type 0 where

@@ -10,12 +10,12 @@ use Rattle.rules.specs.Street.{next}
 use Rattle.rules.specs.Sheet.{kindIn}
 use Rattle.street.specs.declared.Order.{Order}
 use Rattle.street.specs.Order.{capacity, listed, Sound}
-use Rattle.orders.specs.declared.rank.Stop.{Stop}
-use Rattle.orders.specs.Plan.{steps, Tells}
-use Rattle.orders.specs.Ranks.{fact}
-use Rattle.orders.specs.Sets.{stretch, marked}
-use Rattle.orders.specs.Stops.{hopAt, Sound as SoundStop}
-use Rattle.orders.specs.Passes.{Onward, Led, Least}
+use Rattle.steps.specs.declared.rank.Stop.{Stop}
+use Rattle.steps.specs.Plan.{steps, Tells}
+use Rattle.steps.specs.Ranks.{fact}
+use Rattle.steps.specs.Sets.{stretch, marked}
+use Rattle.steps.specs.Stops.{hopAt, Sound as SoundStop}
+use Rattle.steps.specs.Leading.{Onward, Led, Least}
 
 -- three lists tell the steps of a row that has no lone label
 pub record Planned (row kinds ages counts : List ℕ) : Type 0 where

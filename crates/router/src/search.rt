@@ -1,11 +1,11 @@
 // The search: sets of orders forward, pruned backward, the first way picked, and work cleared.
 use crate::walk::walk;
-use orders::four::TABLES;
 use orders::pass::forward;
 use orders::pass::prune;
 use orders::set::wipe;
-ghost use Rattle.orders.specs.Plan.{steps};
-ghost use Rattle.orders.specs.Four.{Tables};
+use steps::four::TABLES;
+ghost use Rattle.steps.specs.Plan.{steps};
+ghost use Rattle.steps.specs.Four.{Tables};
 ghost use Rattle.orders.specs.Passes.{Given};
 ghost use Rattle.router.specs.Walk.{Planned};
 ghost use Rattle.router.specs.Search.{Searched};

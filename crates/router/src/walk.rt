@@ -2,16 +2,16 @@
 use orders::pass::Positions;
 use orders::pass::enter;
 use orders::pass::stop_at;
-use orders::rank::Stop;
-use orders::rank::locate;
+use steps::rank::Stop;
+use steps::rank::locate;
 use street::Order;
 ghost use mathlib.Core.Path.{_≡_};
 ghost use mathlib.Core.List.{map};
 ghost use Rattle.rules.specs.Row.{Node, nodes};
 ghost use Rattle.rules.specs.Street.{kind};
 ghost use Rattle.rules.specs.Sheet.{code};
-ghost use Rattle.orders.specs.Plan.{steps};
-ghost use Rattle.orders.specs.Four.{Tables};
+ghost use Rattle.steps.specs.Plan.{steps};
+ghost use Rattle.steps.specs.Four.{Tables};
 ghost use Rattle.orders.specs.Passes.{Given, Kept, Passable, Picked};
 ghost use Rattle.router.specs.Walk.{Planned, Standing, Stood};
 

@@ -10,7 +10,7 @@ use Rattle.rules.specs.Row.{before, kindOf}
 use Rattle.rules.specs.Sheet.{code, kindIn}
 use Rattle.street.specs.declared.Order.{Order}
 use Rattle.street.specs.Order.{capacity, listed, Sound}
-use Rattle.orders.specs.Plan.{young, age}
+use Rattle.steps.specs.Plan.{young, age}
 use Rattle.script.specs.Told.{Turns}
 
 -- the kind field of node i, by its net's first and last node

@@ -12,7 +12,7 @@ use Rattle.rules.specs.Sheet.{code}
 use Rattle.rules.proofs.Lists.{length-put, length-cut}
 use Rattle.rules.proofs.Fits.{Fits}
 use Rattle.rules.proofs.Open.{onto}
-use Rattle.orders.specs.Plan.{Step, step, young, Tells, steps}
+use Rattle.steps.specs.Plan.{Step, step, young, Tells, steps}
 use Rattle.script.proofs.Touched.{Kept, kept-none, kept-next, node-open, E-begins-not, From, from-nodes}
 
 kindField : Step → ℕ

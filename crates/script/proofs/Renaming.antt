@@ -5,7 +5,7 @@ use Prim.Native.Nat.{ℕ}
 use Rattle.rules.specs.Basic.{cut}
 use Rattle.rules.specs.Row.{before, Kind, B, M, E, node}
 use Rattle.rules.proofs.Renamed.{cut-map, before-map, Only}
-use Rattle.orders.specs.Plan.{young, age}
+use Rattle.steps.specs.Plan.{young, age}
 
 module _ (f : ℕ → ℕ) (x : ℕ) (only : Only f x) where
   pub age-map : (k : Kind) (l : List ℕ) → age (node k (f x)) (map f l) ≡ age (node k x) l

@@ -20,7 +20,7 @@ use Rattle.rules.proofs.Legal.{kindIn-code, code-lt}
 use Rattle.street.specs.declared.Order.{Order}
 use Rattle.street.specs.Order.{capacity, listed, Sound, Emptied}
 use Rattle.street.proofs.Orders.{length-listed}
-use Rattle.orders.specs.Plan.{Step, step, young, age, Tells, steps}
+use Rattle.steps.specs.Plan.{Step, step, young, age, Tells, steps}
 use Rattle.script.specs.Tabled.{noted, Tabled}
 use Rattle.script.specs.Told.{Turning, Turned, Told}
 use Rattle.script.proofs.Noting.{begins-here, later-not-last}

@@ -16,7 +16,7 @@ use Rattle.rules.specs.Judgement.{left}
 use Rattle.rules.proofs.Pins.{at-before, home-le, label-home}
 use Rattle.rules.proofs.Lists.{length-cut}
 use Rattle.rules.proofs.Open.{one, one-same, one-other, times, times-cut, Ahead, ahead-later}
-use Rattle.orders.specs.Plan.{Step, step, young, age, Steps, Tells}
+use Rattle.steps.specs.Plan.{Step, step, young, age, Steps, Tells}
 use Rattle.script.proofs.Noting.{apart}
 
 -- what stands in a list is found in it

@@ -10,7 +10,7 @@ use Rattle.rules.specs.Sheet.{kindIn}
 use Rattle.rules.specs.Bits.{Below}
 use Rattle.street.specs.declared.Order.{Order}
 use Rattle.street.specs.Order.{capacity, listed, Sound}
-use Rattle.orders.specs.Plan.{young, age, Tells, steps}
+use Rattle.steps.specs.Plan.{young, age, Tells, steps}
 
 -- a node that begins no net finds its own open
 pub record Turning (held : Order) (kind x : ℕ) : Type 0 where

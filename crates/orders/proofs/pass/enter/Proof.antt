@@ -2,9 +2,9 @@
 use mathlib.Core.Path.{_≡_, sym, subst}
 use Prim.Native.Nat.{ℕ}
 use native.Mathlib.Omega.{arith}
-use Rattle.orders.specs.Ranks.{fact}
-use Rattle.orders.specs.Sets.{marked}
-use Rattle.orders.specs.Opening.{Entry}
+use Rattle.steps.specs.Ranks.{fact}
+use Rattle.steps.specs.Sets.{marked}
+use Rattle.steps.specs.Opening.{Entry}
 use Rattle.orders.proofs.Entering.{few-somewhere, few-entry}
 use Rattle.orders.proofs.pass.enter.Statement.{statement}
 use Rattle.orders.proofs.pass.enter.Tie as tie

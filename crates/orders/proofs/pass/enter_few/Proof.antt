@@ -2,9 +2,9 @@
 use mathlib.Core.Path.{_≡_}
 use Prim.Native.Nat.{_+_, _-_, _*_}
 use native.Mathlib.Omega.{arith}
-use Rattle.orders.specs.Ranks.{fact}
-use Rattle.orders.specs.Sets.{bit}
-use Rattle.orders.proofs.Words.{bit-set, bit-unset}
+use Rattle.steps.specs.Ranks.{fact}
+use Rattle.steps.specs.Sets.{bit}
+use Rattle.steps.proofs.Words.{bit-set, bit-unset}
 use Rattle.orders.proofs.Entering.{Passed, passed-start, passed-more, passed-found, passed-last, next-rank, few-below}
 use Rattle.orders.proofs.pass.enter_few.Statement.{statement}
 use Rattle.orders.proofs.pass.enter_few.Tie as tie

@@ -2,8 +2,8 @@
 use mathlib.Core.Path.{_∙_}
 use Prim.Native.Nat.{_+_, _-_, _*_}
 use native.Mathlib.Omega.{arith}
-use Rattle.orders.specs.Sets.{marked}
-use Rattle.orders.proofs.Words.{bit-set, bit-unset}
+use Rattle.steps.specs.Sets.{marked}
+use Rattle.steps.proofs.Words.{bit-set, bit-unset}
 use Rattle.orders.proofs.Entering.{Passed, passed-start, passed-more, passed-found, passed-last, fifth-rank, fifth-read}
 use Rattle.orders.proofs.pass.enter_fifth.Statement.{statement}
 use Rattle.orders.proofs.pass.enter_fifth.Tie as tie

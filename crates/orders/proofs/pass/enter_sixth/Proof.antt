@@ -1,6 +1,6 @@
 -- `orders::pass::enter_sixth` meets its contract: where place 2 makes no marked rank, place 3 does.
 use Prim.Native.Nat.{_%_}
-use Rattle.orders.proofs.Words.{bit-set, bit-unset}
+use Rattle.steps.proofs.Words.{bit-set, bit-unset}
 use Rattle.orders.proofs.Entering.{sixth-third, sixth-fourth}
 use borrow.Author.Needs.{needs}
 use Rattle.orders.proofs.pass.enter_sixth.Statement.{statement}

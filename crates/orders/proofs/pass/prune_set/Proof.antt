@@ -2,7 +2,7 @@
 use mathlib.Core.Path.{refl, _∙_}
 use Prim.Native.Nat.{suc}
 use native.Mathlib.Omega.{arith}
-use Rattle.orders.proofs.Bits.{source-gap}
+use Rattle.steps.proofs.Bits.{source-gap}
 use Rattle.orders.proofs.Staying.{nowhere-onward}
 use borrow.Author.Needs.{needs}
 use Rattle.orders.proofs.pass.prune_set.Statement.{statement}

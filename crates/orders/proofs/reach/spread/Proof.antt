@@ -1,7 +1,7 @@
 -- `orders::reach::spread` meets its contract: each kind has its function, and a field that is no kind leads nowhere.
 use native.Mathlib.Omega.{arith}
 use Rattle.orders.proofs.Staying.{nowhere}
-use Rattle.orders.proofs.Touching.{unreached}
+use Rattle.steps.proofs.Touching.{unreached}
 use borrow.Author.Needs.{needs}
 use Rattle.orders.proofs.reach.spread.Statement.{statement}
 use Rattle.orders.proofs.reach.spread.Tie as tie

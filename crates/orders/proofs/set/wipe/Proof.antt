@@ -3,7 +3,7 @@ use mathlib.Core.Path.{_≡_, refl, _∙_}
 use Prim.Native.Nat.{ℕ, _-_, _<_}
 use native.Mathlib.Omega.{arith}
 use lib.ListN.{length, getD, length-set}
-use Rattle.orders.proofs.Bits.{clear-more, clear-all}
+use Rattle.steps.proofs.Bits.{clear-more, clear-all}
 use Rattle.orders.proofs.set.wipe.Statement.{statement}
 use Rattle.orders.proofs.set.wipe.Tie as tie
 

@@ -3,10 +3,10 @@ use mathlib.Core.Path.{refl}
 use borrow.Author.Needs.{needs}
 use Rattle.rules.specs.Basic.{pick, every}
 use Rattle.rules.specs.Street.{limits, met, fits}
-use Rattle.orders.specs.Ranks.{fact, under, spared, atOf, lessOf}
-use Rattle.orders.specs.Sets.{bit}
-use Rattle.orders.specs.Four.{image, gather}
-use Rattle.orders.proofs.FourTables.{restAt, backAt, standAt, legalAt, spotAt, rests, backs, stands, legals, spots, tables-right}
+use Rattle.steps.specs.Ranks.{fact, under, spared, atOf, lessOf}
+use Rattle.steps.specs.Sets.{bit}
+use Rattle.steps.specs.Four.{image, gather}
+use Rattle.steps.proofs.FourTables.{restAt, backAt, standAt, legalAt, spotAt, rests, backs, stands, legals, spots, tables-right}
 use Rattle.router.proofs.search.search.Statement.{statement}
 use Rattle.router.proofs.search.search.Tie as tie
 
