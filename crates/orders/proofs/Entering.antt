@@ -14,12 +14,11 @@ use Rattle.steps.specs.Ranks.{capacity, fact, RankOf}
 use Rattle.steps.specs.Sets.{wordAt, bit, marked}
 use Rattle.steps.specs.Stops.{hopAt, Sound}
 use Rattle.steps.specs.Leading.{Led, Onward, Least}
-use Rattle.steps.specs.Opening.{Somewhere, Entry}
+use Rattle.orders.specs.Passes.{Somewhere, Entry}
 use Rattle.steps.proofs.Ranks.{fact-most, fact-of-four, fact-of-five, rank-lt, rank-digit}
 use Rattle.steps.proofs.Slots.{held-below}
-use Rattle.steps.proofs.Bits.{not-both, marked-held}
+use Rattle.steps.proofs.Bits.{not-both, marked-held, last-or}
 use Rattle.steps.proofs.Hops.{fits-fits, stop-lands}
-use Rattle.steps.proofs.Spreading.{last-or}
 use Rattle.steps.proofs.OpeningSteps.{begun, begun-only}
 use Rattle.steps.proofs.OpeningBack.{low-mark, fifth-mark, sixth-two}
 

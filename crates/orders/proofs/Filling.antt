@@ -15,8 +15,7 @@ use Rattle.steps.specs.Leading.{Reached}
 use Rattle.orders.specs.Passes.{Given, Filled, Passable, Forward}
 use Rattle.steps.proofs.Ranks.{fact-six}
 use Rattle.steps.proofs.Slots.{held-below}
-use Rattle.steps.proofs.Bits.{source-held}
-use Rattle.steps.proofs.Spreading.{last-or}
+use Rattle.steps.proofs.Bits.{source-held, last-or}
 use Rattle.orders.proofs.Ways.{way-start, way-none, steps-length}
 use Rattle.orders.proofs.Nodes.{way-on, way-back, stop-ready, rank-below}
 

@@ -1,18 +1,14 @@
 -- What a pass ensures is what the next one requires.
 use mathlib.Core.Path.{_≡_}
 use mathlib.Core.List.{List}
-use Prim.Native.Nat.{ℕ, suc, _≤_}
+use Prim.Native.Nat.{ℕ, suc}
 use native.Mathlib.Omega.{arith}
-use lib.ListN.{length, take}
-use lib.Seq.{take-all, take-take}
-use Rattle.steps.specs.Plan.{Step, steps}
+use lib.ListN.{length}
+use lib.Seq.{take-all}
+use Rattle.steps.specs.Plan.{steps}
 use Rattle.orders.specs.Passes.{Given, Filled, Passable, Forward, Pruned, Kept}
-use Rattle.orders.proofs.Ways.{passes-take, steps-length}
+use Rattle.orders.proofs.Ways.{steps-length}
 use Rattle.orders.proofs.Nodes.{rank-below}
-
--- the nodes before the failing one can be passed
-pub forward-sooner : (ku kl : ℕ) (ss : List Step) (s t : List ℕ) (n j : ℕ) → Forward ku kl ss s t n → j ≤ n → Passable ku kl (take j ss)
-forward-sooner ku kl ss s t n j f l = rw (take-take j n ss l) at (passes-take ku kl j (take n ss) (f .passes))
 
 module _ (ks xs cs : List ℕ) (ku kl : ℕ) (s t : List ℕ) where
   pub given-same : length t ≡ length s → Given ks xs cs s ku kl → Given ks xs cs t ku kl

@@ -15,8 +15,8 @@ use Rattle.steps.specs.Ranks.{fact, atOf, lessOf, hopOf}
 use Rattle.steps.specs.Sets.{marked, Loses}
 use Rattle.steps.specs.Stops.{hopAt, Sound}
 use Rattle.steps.specs.Leading.{Onward, Misses, Least}
-use Rattle.steps.proofs.Hops.{kept, stop-lands, none-some}
-use Rattle.steps.proofs.Gains.{loses-map}
+use Rattle.steps.proofs.Hops.{kept, hop-made, stop-lands, none-some}
+use Rattle.steps.proofs.Bits.{loses-map}
 
 -- the rank after a node of kind 1 or 2
 abbrev pub after : (kind a b r : ℕ) → ℕ
@@ -78,14 +78,7 @@ module _ (t : Stop) (s : List ℕ) (g r : ℕ) (sound : Sound t) (touched : 0 < 
 
 -- a field that is no kind leads nowhere
 pub nowhere : (t : Stop) (r q x : ℕ) → 3 ≤ t .kind → hopAt t r q ≡ some x → ⊥
-unfolding hopOf
-nowhere t r q x h e = go (t .kind) h e
-  where
-    go : (k : ℕ) → 3 ≤ k → hopOf (t .ku) (t .kl) (step k (t .age) (t .count)) r q ≡ some x → ⊥
-    go zero l e = omega arith
-    go (suc zero) l e = omega arith
-    go (suc (suc zero)) l e = omega arith
-    go (suc (suc (suc k))) l e = none-some refl e
+nowhere t r q x h e = omega (arith, hop-made (t .ku) (t .kl) (t .kind) (t .age) (t .count) r q x e .kind)
 
 pub nowhere-onward : (t : Stop) (s : List ℕ) (g : ℕ) (u : List ℕ) → 3 ≤ t .kind → Loses s g (λ x. ⊥) u → Loses s g (Onward t s (suc g)) u
 nowhere-onward t s g u h f =

@@ -1,15 +1,15 @@
 -- What the passes over the sets of ranks ensure: which ranks are marked after each, and which positions are picked.
 use mathlib.Core.Path.{_≡_}
-use mathlib.Core.Bool.{true}
+use mathlib.Core.Bool.{Bool, true, false}
 use mathlib.Core.List.{List}
 use mathlib.Core.Logic.{_⊎_}
 use mathlib.Core.Option.{some}
-use Prim.Native.Nat.{ℕ, suc, _*_, _<_, _≤_}
+use Prim.Native.Nat.{ℕ, suc, _+_, _*_, _<_, _≤_}
 use lib.ListN.{length, take, drop}
 use Rattle.rules.specs.Street.{Earlier}
 use Rattle.orders.specs.declared.pass.Positions.{Positions}
 use Rattle.steps.specs.Plan.{Step, Steps, steps}
-use Rattle.steps.specs.Ranks.{hops, Way, Ahead}
+use Rattle.steps.specs.Ranks.{fact, hops, Way, Ahead}
 use Rattle.steps.specs.Sets.{ranks, stretch, marked}
 
 -- what the passes are given: three lists of one length that hold steps, bytes for a gap after each, the tracks of two streets
@@ -51,6 +51,19 @@ pub record Kept (ku kl : ℕ) (ss : List Step) (s : List ℕ) : Type 0 where
   pub ways : (g x : ℕ) → g < length ss → x < ranks → marked s g x ≡ true → Way ku kl (take (suc g) ss) x
   pub sound : (g x : ℕ) → g < length ss → x < ranks → marked s g x ≡ true → Ahead ku kl (drop (suc g) ss) x
   pub full : (g x : ℕ) → g < length ss → Way ku kl (take (suc g) ss) x → Ahead ku kl (drop (suc g) ss) x → marked s g x ≡ true
+
+-- a new net among b others, over rank r, makes a rank of P
+pub record Somewhere (P : ℕ → Bool) (b r : ℕ) : Type 0 where
+  pub at : ℕ
+  pub low : at ≤ b
+  pub is : P (at * fact b + r) ≡ true
+
+-- p is the least place where it does, and x that rank
+pub record Entry (P : ℕ → Bool) (b r p x : ℕ) : Type 0 where
+  pub low : p ≤ b
+  pub rank : x ≡ p * fact b + r
+  pub is : P x ≡ true
+  pub first : (q : ℕ) → q < p → P (q * fact b + r) ≡ false
 
 -- of all positions that lead from rank r through the steps, the first in reading order
 pub record First (ku kl : ℕ) (ss : List Step) (r : ℕ) (ps : List ℕ) : Type 0 where

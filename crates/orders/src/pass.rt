@@ -18,9 +18,8 @@ ghost use Rattle.steps.specs.Sets.{stretch, bit, marked, Loses};
 ghost use Rattle.steps.specs.Stops.{Sound, stopOf};
 ghost use Rattle.steps.specs.Four.{Tables};
 ghost use Rattle.steps.specs.Masks.{Sources};
-ghost use Rattle.steps.specs.Opening.{Somewhere, Entry};
-ghost use Rattle.steps.specs.Leading.{Led, Onward, Reached, Least};
-ghost use Rattle.orders.specs.Passes.{Given, Forward, Filled, Passable, Pruned, Kept, Picked};
+ghost use Rattle.steps.specs.Leading.{Onward, Reached};
+ghost use Rattle.orders.specs.Passes.{Given, Forward, Filled, Passable, Pruned, Somewhere, Entry};
 
 // The position of each node, from 0.
 pub struct Positions {

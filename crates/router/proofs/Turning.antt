@@ -11,7 +11,7 @@ use Rattle.street.specs.Order.{capacity, listed, Sound}
 use Rattle.steps.specs.declared.rank.Stop.{Stop}
 use Rattle.steps.specs.Ranks.{lessOf}
 use Rattle.steps.specs.Sets.{marked}
-use Rattle.steps.specs.Opening.{Entry}
+use Rattle.orders.specs.Passes.{Entry}
 use Rattle.steps.specs.Leading.{Least}
 use Rattle.orders.proofs.Staying.{after-touch, after-end, stays}
 use Rattle.orders.proofs.Entering.{enters}

@@ -1,18 +1,24 @@
--- A rank's mark is a bit of a word of its gap, where a set can hold the rank; and bytes that are cleared one by one.
+-- A rank's mark is a bit of a word of its gap, where a set can hold the rank; and gaps of which only some marks are left.
 use mathlib.Core.Path.{_≡_, refl, sym, _∙_}
 use mathlib.Core.Bool.{Bool, true, false}
 use mathlib.Core.List.{List}
-use Prim.Native.Nat.{ℕ, zero, suc, _+_, _/_, _%_, _^_, _≤_, _<_}
+use Prim.Native.Nat.{ℕ, zero, suc, _+_, _%_, _<_}
 use native.Mathlib.Omega.{arith}
-use lib.ListN.{length, getD, set, List·getD-eq-default}
-use lib.Seq.{getD-set-same, getD-set-other}
-use lib.Dec.{eqb, ltb}
-use borrow.Author.Tests.{ltb-true, ltb-false, eqb-true, eqb-false}
-use Rattle.steps.specs.Sets.{held, slot, wordAt, bit, marked, source}
+use lib.Dec.{eqb}
+use borrow.Author.Tests.{eqb-true, eqb-false}
+use Rattle.steps.specs.Sets.{ranks, held, slot, wordAt, bit, marked, source, Loses}
 use Rattle.steps.proofs.Slots.{held-few}
 
 pub not-both : {t : Bool} → t ≡ false → t ≡ true → ⊥
 not-both f e = let z : _≡_ {A = ℕ} 0 1 = cc in omega arith
+
+-- a number below k + 1 is k or below it
+pub last-or : (P : Type 0) (q k : ℕ) → q < k + 1 → (q ≡ k → P) → (q < k → P) → P
+last-or P q k h f g = go (eqb q k) refl
+  where
+    go : (b : Bool) → eqb q k ≡ b → P
+    go true e = f (eqb-true q k e)
+    go false e = g (omega (arith, eqb-false q k e))
 
 -- a rank's mark is its bit, where a set can hold it, and none where not
 module _ (s : List ℕ) (g r : ℕ) where
@@ -23,11 +29,6 @@ module _ (s : List ℕ) (g r : ℕ) where
   pub marked-none : held r ≡ false → marked s g r ≡ false
   unfolding marked
   marked-none h = rw h
-
-  -- as the code reads it
-  pub marked-read : (k w : ℕ) → held r ≡ true → k ≡ slot r → w ≡ wordAt s g k → eqb (w / 2 ^ (r % 24) % 2) 1 ≡ marked s g r
-  unfolding bit
-  marked-read k w h e d = rw (marked-bit h, d, e)
 
   pub marked-held : marked s g r ≡ true → held r ≡ true
   marked-held e = go (held r) refl
@@ -59,18 +60,14 @@ unfolding source
 source-held s zero r e = held-few r (omega (arith, eqb-true r 0 e))
 source-held s (suc g) r e = marked-held s g r e
 
--- the first i bytes are 0, and one more is cleared
-pub clear-more : (s : List ℕ) (i : ℕ) → i < length s → ((j : ℕ) → j < i → getD s j 0 ≡ 0) → (j : ℕ) → j < i + 1 →
-    getD (set s i 0) j 0 ≡ 0
-clear-more s i h z j l = go (eqb j i) refl
-  where
-    go : (t : Bool) → eqb j i ≡ t → getD (set s i 0) j 0 ≡ 0
-    go true e = rw (eqb-true j i e) (getD-set-same s i 0 0 h)
-    go false e = getD-set-other s i j 0 0 (eqb-false j i e) ∙ z j (omega (arith, eqb-false j i e))
-
-pub clear-all : (s : List ℕ) (i : ℕ) → length s ≤ i → ((j : ℕ) → j < i → getD s j 0 ≡ 0) → (j : ℕ) → getD s j 0 ≡ 0
-clear-all s i h z j = go (ltb j i) refl
-  where
-    go : (t : Bool) → ltb j i ≡ t → getD s j 0 ≡ 0
-    go true e = z j (ltb-true j i e)
-    go false e = List·getD-eq-default s 0 (omega (arith, ltb-false j i e))
+-- only some marks of a gap are left, told otherwise
+pub loses-map : (s : List ℕ) (g : ℕ) (P Q : ℕ → Type 0) (t : List ℕ) → ((x : ℕ) → x < ranks → marked s g x ≡ true → P x → Q x) →
+    ((x : ℕ) → x < ranks → marked s g x ≡ true → Q x → P x) → Loses s g P t → Loses s g Q t
+loses-map s g P Q t to from h =
+    record {
+      long = h .long;
+      others = h .others;
+      was = h .was;
+      sound = λ x l e. to x l (h .was x l e) (h .sound x l e);
+      full = λ x l e q. h .full x l e (from x l e q);
+    }

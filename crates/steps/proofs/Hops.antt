@@ -147,7 +147,7 @@ hop-met ku kl k a b r p x ek e = go (hop-one (rw ek at e))
         let m : p ≡ atOf a b r = eqb-true p (atOf a b r) u in
         (q, rw m at f)
 
--- at a sound stop a hop has one of six capacity, and lands on a rank of the gap
+-- at a sound stop a hop has one of six positions, and lands on a rank of the gap
 pub stop-lands : (t : Stop) (r p x : ℕ) → Sound t → r < fact (t .count) → hopAt t r p ≡ some x → (p < capacity) × (x < ranks)
 stop-lands t r p x h l e =
     let m = hop-made (t .ku) (t .kl) (t .kind) (t .age) (t .count) r p x e in

@@ -3,10 +3,8 @@ pub mod Slots
 pub mod Words
 pub mod Hops
 pub mod Bits
-pub mod Gains
 pub mod Masks
 pub mod Touching
-pub mod Spreading
 pub mod OpeningBits
 pub mod OpeningMarks
 pub mod OpeningSlots

@@ -18,10 +18,9 @@ use Rattle.steps.specs.Sets.{ranks, slots, held, slot, wordAt, bit, mark
 use Rattle.steps.specs.Opening.{Places, Joined, Entered}
 use Rattle.steps.proofs.Ranks.{rank-digit}
 use Rattle.steps.proofs.Slots.{held-few, held-middle, slot-few, slot-middle, slot-below}
-use Rattle.steps.proofs.Bits.{not-both, marked-bit, marked-held}
+use Rattle.steps.proofs.Bits.{not-both, marked-bit, marked-held, last-or}
 use Rattle.steps.proofs.Hops.{fits-fits, fitting}
 use Rattle.steps.proofs.Words.{bit-and, bit-or, bit-zero}
-use Rattle.steps.proofs.Spreading.{last-or}
 use Rattle.steps.proofs.OpeningBits.{both}
 use Rattle.steps.proofs.OpeningMarks.{same-marks, fact-few}
 use Rattle.steps.proofs.OpeningSlots.{or-some, picked}

@@ -15,10 +15,9 @@ use Rattle.steps.specs.Ranks.{fact}
 use Rattle.steps.specs.Sets.{slots, held, slot, wordAt, bit, marked, source, Written, Empty, Some, Bare}
 use Rattle.steps.specs.Opening.{wide, Fifth, Before, Opened}
 use Rattle.steps.proofs.Slots.{held-few, slot-few, slot-cases, slot-below}
-use Rattle.steps.proofs.Bits.{not-both, marked-bit}
+use Rattle.steps.proofs.Bits.{not-both, marked-bit, last-or}
 use Rattle.steps.proofs.Hops.{fitting, unfit}
 use Rattle.steps.proofs.Words.{bit-or, bit-zero}
-use Rattle.steps.proofs.Spreading.{last-or}
 use Rattle.steps.proofs.OpeningMarks.{same-marks, unwritten, bare-none, bare-some, bare-test, first-told}
 
 pub or-some : (a b : Bool) → a || b ≡ true → (a ≡ true) ⊎ (b ≡ true)

@@ -15,9 +15,8 @@ use Rattle.steps.specs.Leading.{Reached, Onward}
 use Rattle.steps.specs.Opening.{Opened, Entered}
 use Rattle.steps.proofs.Ranks.{fact-pos, rank-digit}
 use Rattle.steps.proofs.Slots.{held-below}
-use Rattle.steps.proofs.Bits.{marked-held, source-held}
+use Rattle.steps.proofs.Bits.{marked-held, source-held, loses-map}
 use Rattle.steps.proofs.Hops.{unfit, hop-begins, hop-unbegun, stop-held, none-some, same-some}
-use Rattle.steps.proofs.Gains.{loses-map}
 use Rattle.steps.proofs.OpeningMarks.{unwritten}
 use Rattle.steps.proofs.OpeningBits.{both}
 

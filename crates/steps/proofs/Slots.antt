@@ -1,11 +1,11 @@
--- The ranks that a set can hold, and the words that they are in: no two share a bit of a word.
+-- The ranks that a set can hold, and the words that they are in.
 use mathlib.Core.Path.{_≡_, refl, _∙_}
 use mathlib.Core.Bool.{Bool, true, false, _&&_, _||_}
 use mathlib.Core.Logic.{_⊎_, inl, inr, ⊎-elim}
-use Prim.Native.Nat.{ℕ, _-_, _/_, _%_, _≤_, _<_}
+use Prim.Native.Nat.{ℕ, _-_, _/_, _≤_, _<_}
 use native.Mathlib.Omega.{arith}
 use lib.Dec.{leb, ltb}
-use borrow.Author.Tests.{ltb-true, leb-true, lt-ltb, le-ltb, le-leb, lt-leb}
+use borrow.Author.Tests.{ltb-true, leb-true, lt-ltb, le-ltb, le-leb}
 use Rattle.rules.specs.Basic.{pick}
 use Rattle.steps.specs.Sets.{slots, held, slot}
 
@@ -27,10 +27,6 @@ module _ (r : ℕ) where
   pub held-few : r < 120 → held r ≡ true
   unfolding held
   held-few h = rw (lt-ltb r 120 h)
-
-  pub unheld-between : 120 ≤ r → r < 240 → held r ≡ false
-  unfolding held
-  unheld-between l h = rw (le-ltb r 120 l, lt-leb 240 r h)
 
   pub held-upper : 240 ≤ r → held r ≡ ltb r 480
   unfolding held
@@ -61,13 +57,3 @@ slot-below r e = go (slot-cases r e)
     go : ((r < 120) × (slot r ≡ r / 24)) ⊎ ((240 ≤ r) × (r < 480) × (slot r ≡ r / 24 - 5)) → slot r < slots
     go (inl h) = omega arith
     go (inr h) = omega arith
-
-pub slot-one : (r x : ℕ) → held r ≡ true → held x ≡ true → slot r ≡ slot x → r % 24 ≡ x % 24 → r ≡ x
-slot-one r x hr hx e m = go (slot-cases r hr) (slot-cases x hx)
-  where
-    go : ((r < 120) × (slot r ≡ r / 24)) ⊎ ((240 ≤ r) × (r < 480) × (slot r ≡ r / 24 - 5)) →
-        ((x < 120) × (slot x ≡ x / 24)) ⊎ ((240 ≤ x) × (x < 480) × (slot x ≡ x / 24 - 5)) → r ≡ x
-    go (inl a) (inl b) = omega arith
-    go (inl a) (inr b) = omega arith
-    go (inr a) (inl b) = omega arith
-    go (inr a) (inr b) = omega arith

@@ -1,13 +1,13 @@
 -- Bits of numbers under the operations on words, and words that are put into the lent bytes.
 use mathlib.Core.Path.{_≡_, refl, sym, ap, _∙_}
-use mathlib.Core.Bool.{Bool, true, false, not, _&&_, _||_}
+use mathlib.Core.Bool.{Bool, true, false, _&&_, _||_}
 use mathlib.Core.List.{List}
 use Prim.Native.Nat.{ℕ, zero, suc, _+_, _-_, _*_, _/_, _%_, _^_, _≤_, _<_, min, max}
 use native.Mathlib.Nat.{div-self, div-eq-of-lt, zero-div, mod-lt, mul-assoc}
 use native.Mathlib.Omega.{arith}
 use lib.ListN.{length, getD, set, length-set}
 use lib.Seq.{getD-set-same, getD-set-other}
-use lib.Bits.{bitAnd, bitOr, bitXor, differ, and-shr, or-shr, xor-shr, and-step, or-step, xor-step, shifted-even, or-shifted}
+use lib.Bits.{bitAnd, bitOr, and-shr, or-shr, and-step, or-step, shifted-even, or-shifted}
 use lib.Pow.{pow-pos, pow-lt, pow-mono, pow-add, shl-shr, shr-shr, split, high}
 use lib.Dec.{eqb, ltb}
 use borrow.Author.Tests.{ltb-true, ltb-false, eqb-false, eq-eqb, ne-eqb}
@@ -26,11 +26,6 @@ digits P a b c d (suc (suc x)) y h l = absurd (omega arith)
 -- a digit of two is told by tests of the two
 abbrev Tells : (ℕ → ℕ → ℕ) → (Bool → Bool → Bool) → (x y : ℕ) → Type 0
 Tells f h x y = (f x y < 2) × (eqb (f x y) 1 ≡ h (eqb x 1) (eqb y 1))
-
--- a test turned over where another passes
-abbrev turned : Bool → Bool → Bool
-turned a true = not a
-turned a false = a
 
 -- the low bit of a number made digit by digit
 combined : (f : ℕ → ℕ → ℕ) (h : Bool → Bool → Bool) → Tells f h 0 0 → Tells f h 0 1 → Tells f h 1 0 → Tells f h 1 1 →
@@ -56,14 +51,6 @@ module _ (a b i : ℕ) where
       let y : ℕ = b / 2 ^ i in
       ap (λ (d : ℕ). eqb (d % 2) 1) (or-shr a b i) ∙
       combined max _||_ (omega arith, refl) (omega arith, refl) (omega arith, refl) (omega arith, refl) (bitOr x y) (bitOr (x / 2) (y / 2)) x y (or-step x y)
-
-  bit-xor : bit (bitXor a b) i ≡ turned (bit a i) (bit b i)
-  unfolding bit
-  bit-xor =
-      let x : ℕ = a / 2 ^ i in
-      let y : ℕ = b / 2 ^ i in
-      ap (λ (d : ℕ). eqb (d % 2) 1) (xor-shr a b i) ∙
-      combined differ turned (omega arith, refl) (omega arith, refl) (omega arith, refl) (omega arith, refl) (bitXor x y) (bitXor (x / 2) (y / 2)) x y (xor-step x y)
 
 -- a bit as it is tested
 module _ (w i : ℕ) where
@@ -114,12 +101,6 @@ bit-power-other m n f = go (ltb n m) refl
     go : (t : Bool) → ltb n m ≡ t → bit (2 ^ m) n ≡ false
     go true e = ap (λ (d : ℕ). bit d n) (omega arith) ∙ bit-shl-low 1 m n (ltb-true n m e)
     go false e = bit-high (2 ^ m) (suc m) n (pow-lt (omega arith)) (omega (arith, ltb-false n m e, f))
-
-pub bit-turned : (w n : ℕ) → bit (bitXor w (2 ^ n)) n ≡ not (bit w n)
-bit-turned w n = bit-xor w (2 ^ n) n ∙ ap (turned (bit w n)) (bit-power n)
-
-pub bit-unturned : (w m n : ℕ) → (n ≡ m → ⊥) → bit (bitXor w (2 ^ m)) n ≡ bit w n
-bit-unturned w m n f = bit-xor w (2 ^ m) n ∙ ap (turned (bit w n)) (bit-power-other m n f)
 
 -- two parts of a number
 pub bit-upper : (a k r i : ℕ) → r < 2 ^ k → bit (a * 2 ^ k + r) (k + i) ≡ bit a i

@@ -2,7 +2,7 @@
 --
 -- A new net at place p among b others, over an order of rank r, makes rank p · b! + r.
 use mathlib.Core.Path.{_≡_}
-use mathlib.Core.Bool.{Bool, true, false, _&&_, _||_}
+use mathlib.Core.Bool.{true, false, _&&_, _||_}
 use mathlib.Core.List.{List, [], _∷_}
 use Prim.Native.Nat.{ℕ, suc, _+_, _*_, _/_, _%_, _<_, _≤_}
 use lib.ListN.{length}
@@ -57,16 +57,3 @@ pub record Entered (ku kl b : ℕ) (s : List ℕ) (g x : ℕ) : Type 0 where
   pub at : ℕ
   pub fit : fits ku kl (suc at) (suc b) ≡ true
   pub kept : marked s g (at * fact b + x) ≡ true
-
--- a new net among b others, over rank r, makes a rank of P
-pub record Somewhere (P : ℕ → Bool) (b r : ℕ) : Type 0 where
-  pub at : ℕ
-  pub low : at ≤ b
-  pub is : P (at * fact b + r) ≡ true
-
--- p is the least place where it does, and x that rank
-pub record Entry (P : ℕ → Bool) (b r p x : ℕ) : Type 0 where
-  pub low : p ≤ b
-  pub rank : x ≡ p * fact b + r
-  pub is : P x ≡ true
-  pub first : (q : ℕ) → q < p → P (q * fact b + r) ≡ false

@@ -1,5 +1,4 @@
 // Ranks of the orders of at most six nets, and where a net stands in them.
-ghost use mathlib.Core.Path.{_≡_};
 ghost use Prim.Native.Nat.{_-_, _≤_, _<_};
 ghost use Rattle.steps.specs.Ranks.{capacity, fact};
 ghost use Rattle.steps.specs.Sets.{ranks};

@@ -4,7 +4,7 @@ use Prim.Native.Nat.{ℕ}
 use native.Mathlib.Omega.{arith}
 use Rattle.steps.specs.Ranks.{fact}
 use Rattle.steps.specs.Sets.{marked}
-use Rattle.steps.specs.Opening.{Entry}
+use Rattle.orders.specs.Passes.{Entry}
 use Rattle.orders.proofs.Entering.{few-somewhere, few-entry}
 use Rattle.orders.proofs.pass.enter.Statement.{statement}
 use Rattle.orders.proofs.pass.enter.Tie as tie
