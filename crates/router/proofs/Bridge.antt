@@ -7,9 +7,9 @@ use mathlib.Core.Option.{Option, none, some, Option·map}
 use Prim.Native.Nat.{ℕ, zero, suc, _+_, _-_, _*_, _≤_, _<_}
 use native.Mathlib.Nat.{eq-zero-or-pos}
 use native.Mathlib.Omega.{arith}
-use lib.ListN.{length, getD, take}
+use lib.ListN.{length, take}
 use lib.Seq.{take-all, take-length, take-take}
-use lib.Dec.{T, eqb, eqb·suc-suc}
+use lib.Dec.{eqb, eqb·suc-suc}
 use borrow.Author.Tests.{eqb-true, eqb-false}
 use Rattle.rules.specs.Basic.{put, cut, keep, andThen}
 use Rattle.rules.specs.Row.{before, lone, Kind, B, M, E, Node, node, nodes}
@@ -26,7 +26,7 @@ use Rattle.rules.proofs.Failing.{passes-take}
 use Rattle.steps.specs.Plan.{Step, step, young, age, Steps, Tells}
 use Rattle.steps.specs.Ranks.{fact, orderOf, atOf, lessOf, hopOf, hops}
 use Rattle.steps.proofs.Hops.{hop-made}
-use Rattle.steps.proofs.Ranks.{Distinct, rank-lt, less-lt, at-lt, order-length, order-put, order-at, order-less}
+use Rattle.steps.proofs.Ranks.{Distinct, order-length, order-put, order-at, order-less}
 
 module _ (ku kl : ℕ) where
   -- a step of the street rules at the order of a rank is a hop

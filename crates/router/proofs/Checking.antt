@@ -1,15 +1,14 @@
 -- Checks 1 to 5 in their order: the first cause that holds gives the router's answer, and buffers stay as they were.
-use mathlib.Core.Path.{_≡_, refl, sym, ap, _∙_}
-use mathlib.Core.Bool.{Bool, true, false, not, _||_}
+use mathlib.Core.Path.{_≡_, refl, _∙_}
+use mathlib.Core.Bool.{Bool, true, false}
 use mathlib.Core.List.{List}
-use mathlib.Core.Option.{Option, none, some}
+use mathlib.Core.Option.{none}
 use Prim.Native.Nat.{ℕ, suc, _*_, _≤_, _<_}
 use native.Mathlib.Omega.{arith}
 use lib.ListN.{length}
-use lib.Dec.{ltb}
 use borrow.Author.Tests.{lt-ltb, le-ltb}
 use Rattle.rules.specs.declared.Routing.{Routing}
-use Rattle.rules.specs.declared.Routing.the-variants.{Sheet, RowLength, Tracks, Lone, WorkShort, SheetShort, Stuck}
+use Rattle.rules.specs.declared.Routing.the-variants.{RowLength, Tracks, Lone, WorkShort, SheetShort}
 use Rattle.rules.specs.Basic.{keep, orElse, settle}
 use Rattle.rules.specs.Sheet.{takes, size}
 use Rattle.rules.specs.Judgement.{wrongCount}

@@ -2,26 +2,24 @@
 use mathlib.Core.Path.{_≡_, refl, sym, ap, ap₂, _∙_}
 use mathlib.Core.Bool.{true, false}
 use mathlib.Core.List.{List, [], _∷_, _++_, map, map-append}
-use mathlib.Core.Option.{Option, some, Option·map}
-use Prim.Native.Nat.{ℕ, zero, suc, _+_, _-_, _≤_, _<_}
+use mathlib.Core.Option.{some, Option·map}
+use Prim.Native.Nat.{ℕ, suc, _+_, _-_, _≤_, _<_}
 use native.Mathlib.Nat.{suc-inj}
 use native.Mathlib.Omega.{arith}
 use lib.ListN.{length, getD, take, length-map, List·getD-map}
-use lib.Seq.{take-suc, length-take-le}
+use lib.Seq.{take-suc}
 use lib.Dec.{T, eqb, eqb→eq}
 use Rattle.rules.specs.Basic.{andThen}
 use Rattle.rules.specs.Row.{before, home, later, lone, Kind, B, M, E, Node, node, nodeAt, nodes, kindOf}
 use Rattle.rules.specs.Street.{counted, stands, next, kind, run}
-use Rattle.rules.specs.Sheet.{code, kindIn}
-use Rattle.rules.proofs.Fits.{Fits}
+use Rattle.rules.specs.Sheet.{code}
 use Rattle.rules.proofs.Runs.{runs-length, run-append, at-ends}
 use Rattle.rules.proofs.Pins.{before-found, getD-tabulate}
 use Rattle.rules.proofs.Open.{Onto, onto}
-use Rattle.rules.proofs.Legal.{code-lt, kindIn-code}
 use Rattle.rules.proofs.Renamed.{Only, before-map, next-map, home-only}
 use Rattle.rules.proofs.Accepted.{length-nodes}
 use Rattle.street.specs.declared.Order.{Order}
-use Rattle.street.specs.Order.{capacity, listed, Sound, Emptied}
+use Rattle.street.specs.Order.{listed, Sound, Emptied}
 use Rattle.street.proofs.Orders.{length-listed}
 use Rattle.steps.specs.Plan.{Step, step, Steps, Tells}
 use Rattle.steps.specs.Ranks.{orderOf, hopOf, hops}

@@ -1,19 +1,18 @@
 -- From what the search finds to the router's answer: the failing node, or the first placing's sheet, with work cleared.
 use mathlib.Core.Path.{_≡_, refl, sym, ap, ap₂, _∙_}
 use mathlib.Core.List.{List, [], _∷_, _++_, map}
-use mathlib.Core.Option.{Option, none, some}
-use Prim.Native.Nat.{ℕ, zero, suc, _+_, _-_, _*_, _≤_, _<_}
+use mathlib.Core.Option.{none, some}
+use Prim.Native.Nat.{ℕ, suc, _+_, _-_, _*_, _≤_, _<_}
 use native.Mathlib.Numerals.{add-one}
 use native.Mathlib.Omega.{arith}
-use lib.ListN.{length, getD, take, drop, replicate, length-replicate, getD-replicate, length-map}
-use lib.Seq.{length-take-le, take-length, ext-getD}
-use Rattle.rules.specs.declared.Routing.{Routing}
+use lib.ListN.{length, take, drop, replicate, length-replicate, getD-replicate}
+use lib.Seq.{length-take-le, ext-getD}
 use Rattle.rules.specs.declared.Routing.the-variants.{Sheet, Stuck}
 use Rattle.rules.specs.Basic.{settle}
 use Rattle.rules.specs.Row.{Node, nodes}
-use Rattle.rules.specs.Street.{kind, next, run, Placing, IsFirst, StopsAt, first, failing}
+use Rattle.rules.specs.Street.{kind, next, run, IsFirst, StopsAt, first}
 use Rattle.rules.specs.Bits.{Below, bytes}
-use Rattle.rules.specs.Sheet.{code, Entry, entries, size, sheetBits, sheet}
+use Rattle.rules.specs.Sheet.{code, entries, sheetBits, sheet}
 use Rattle.rules.specs.Answers.{written, outcome, cleared, workAfter, firstSheet, sheetAfter}
 use Rattle.rules.proofs.Fields.{below-take, below-mono}
 use Rattle.rules.proofs.Open.{onto}
@@ -22,8 +21,7 @@ use Rattle.rules.proofs.Failing.{stops-failing}
 use Rattle.rules.proofs.NoPlacing.{stops-stuck}
 use Rattle.rules.proofs.Accepted.{length-nodes}
 use Rattle.rules.proofs.Demand3.{Fit}
-use Rattle.steps.specs.Plan.{Step, steps, Steps, Tells}
-use Rattle.steps.specs.Ranks.{hops, Way}
+use Rattle.steps.specs.Plan.{Step, steps, Steps}
 use Rattle.steps.specs.Sets.{Clear}
 use Rattle.orders.specs.Passes.{Given, First}
 use Rattle.orders.proofs.Ways.{steps-length}
@@ -35,7 +33,7 @@ use Rattle.writer.proofs.Zipping.{zipped-entries}
 use Rattle.router.specs.Walk.{Planned}
 use Rattle.router.specs.Search.{Searched}
 use Rattle.router.specs.Routed.{Laid}
-use Rattle.router.proofs.Bridge.{hops-first, hops-placing, hops-stops}
+use Rattle.router.proofs.Bridge.{hops-first, hops-stops}
 
 -- cleared bytes are zeros
 clear-zeros : (s : List ℕ) → Clear s → s ≡ replicate (length s) 0

@@ -1,9 +1,10 @@
 -- What one node of the last pass does: a new net enters at the least place whose rank is marked, a touched one stands where the order has it.
-use mathlib.Core.Path.{_≡_, refl, sym, ap, _∙_}
+use mathlib.Core.Path.{_≡_, sym, ap, _∙_}
+use mathlib.Core.List.{List}
 use Prim.Native.Nat.{ℕ, suc, _-_, _<_}
 use native.Mathlib.Omega.{arith}
 use Rattle.rules.specs.Basic.{put, cut}
-use Rattle.rules.specs.Row.{before, node}
+use Rattle.rules.specs.Row.{before}
 use Rattle.rules.specs.Street.{next}
 use Rattle.rules.specs.Sheet.{kindIn}
 use Rattle.street.specs.declared.Order.{Order}
@@ -15,8 +16,7 @@ use Rattle.orders.specs.Passes.{Entry}
 use Rattle.steps.specs.Leading.{Least}
 use Rattle.orders.proofs.Staying.{after-touch, after-end, stays}
 use Rattle.orders.proofs.Entering.{enters}
-use Rattle.router.specs.Walk.{Placed, Standing, Stood}
-use mathlib.Core.List.{List}
+use Rattle.router.specs.Walk.{Standing, Stood}
 
 less : (p : ℕ) → suc p - 1 ≡ p
 less p = omega arith

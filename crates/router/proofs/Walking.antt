@@ -1,11 +1,11 @@
 -- The last pass, node by node: the places so far begin the first way, and the order that is held is that of the rank.
-use mathlib.Core.Path.{_≡_, sym, ap, _∙_}
+use mathlib.Core.Path.{_≡_, ap, _∙_}
 use mathlib.Core.List.{List, map}
 use mathlib.Core.Option.{some}
 use Prim.Native.Nat.{ℕ, suc, _+_, _≤_, _<_}
 use native.Mathlib.Numerals.{add-one}
 use native.Mathlib.Omega.{arith}
-use lib.ListN.{length, getD, set}
+use lib.ListN.{length, getD, take, set}
 use Rattle.rules.specs.Row.{Node, node, nodes}
 use Rattle.rules.specs.Street.{kind, next}
 use Rattle.rules.specs.Sheet.{code, kindIn}
@@ -15,14 +15,13 @@ use Rattle.street.specs.Order.{listed, Emptied}
 use Rattle.steps.specs.declared.rank.Stop.{Stop}
 use Rattle.steps.specs.Plan.{Step, step, steps}
 use Rattle.steps.specs.Ranks.{hopOf}
-use Rattle.steps.specs.Stops.{stopOf, stepOf, hopAt}
+use Rattle.steps.specs.Stops.{stopOf, hopAt}
 use Rattle.orders.specs.Passes.{Given, Kept, Passable, First}
-use Rattle.orders.proofs.Ways.{steps-at, steps-length}
+use Rattle.orders.proofs.Ways.{steps-at}
 use Rattle.orders.proofs.Nodes.{stop-ready}
 use Rattle.orders.proofs.Picking.{Picks, picks-start, picks-step, picks-end, leads-on, known-kind, marks-led}
-use Rattle.router.specs.Walk.{Planned, Placed, Standing, Stood}
+use Rattle.router.specs.Walk.{Planned, Standing, Stood}
 use Rattle.router.proofs.Holding.{Holding, kindAt, kind-told, holding-none, holding-placed, holding-more}
-use lib.ListN.{take}
 
 pub record Walks (row kinds ages counts : List ℕ) (ku kl : ℕ) (ps : List ℕ) (held : Order) (i r : ℕ) : Type 0 where
   pub picks : Picks kinds ages counts ku kl ps i r
