@@ -1,11 +1,11 @@
 // Every way of joining the nodes of a short row, none alone, under every pair of streets.
-use crate::tally;
-use crate::tally::larger;
 use secondrouter::cells::ROW;
 use secondrouter::cells::clear;
 use secondrouter::cells::num;
 use secondrouter::cells::plus;
 use secondrouter::cells::set;
+use tallies::tally;
+use tallies::tally::larger;
 
 // There are 21,147 ways to part nine nodes into nets.
 const PARTINGS: usize = 21147;
@@ -43,7 +43,7 @@ fn next(store: &mut [u8], n: usize) -> bool {
 fn under_all(store: &mut [u8], words: &mut [usize], n: usize) {
     for pair in 0..16 {
         tally::add(words, tally::JOININGS, 1);
-        crate::trial::test(store, words, n, pair);
+        trials::trial::test(store, words, n, pair);
     }
 }
 

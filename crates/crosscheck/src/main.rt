@@ -1,9 +1,6 @@
 // Tests the router, the reader, the agreement test and the drawer against a second router.
 mod joinings;
-mod patterns;
 mod rows;
-mod tally;
-mod trial;
 
 fn run(store: &mut [u8; 2373376], words: &mut [usize; 74752]) {
     joinings::test_all(store, words);
@@ -11,7 +8,7 @@ fn run(store: &mut [u8; 2373376], words: &mut [usize; 74752]) {
     rows::test_short(store, words);
     rows::test_long(store, words);
     rows::test_lone(store, words);
-    tally::report(words);
+    tallies::tally::report(words);
 }
 
 fn main() {

@@ -1,0 +1,2 @@
+// Rows by lot, for the trials.
+pub mod rows;
