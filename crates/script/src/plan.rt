@@ -63,7 +63,7 @@ struct Turn {
     held: Order,
 }
 
-// Node i, of the net with label x, whose first and last node are these. A branch for each kind: the code then takes few instructions wherever it stands.
+// Node i, of the net with label x, whose first and last node are these. A branch for each kind takes fewer instructions than a kind that is computed first.
 fn turn_at(held: Order, i: usize, first: u16, last: u16, x: u8) -> Turn
     requires { ⌜ Turning held (code (kindOf (eqb first i) (not (eqb last i)))) x ⌝ }
     ensures { λ r. ⌜ Turns held (code (kindOf (eqb first i) (not (eqb last i)))) x (r .kind) (r .full) (r .age) (r .held) ⌝ }
