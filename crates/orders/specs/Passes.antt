@@ -7,7 +7,6 @@ use mathlib.Core.Option.{some}
 use Prim.Native.Nat.{ℕ, suc, _+_, _*_, _<_, _≤_}
 use lib.ListN.{length, take, drop}
 use Rattle.rules.specs.Street.{Earlier}
-use Rattle.orders.specs.declared.pass.Positions.{Positions}
 use Rattle.steps.specs.Plan.{Step, Steps, steps}
 use Rattle.steps.specs.Ranks.{fact, hops, Way, Ahead}
 use Rattle.steps.specs.Sets.{ranks, stretch, marked}
@@ -71,7 +70,7 @@ pub record First (ku kl : ℕ) (ss : List Step) (r : ℕ) (ps : List ℕ) : Type
   pub runs : hops ku kl ss r ps ≡ some end
   pub others : (qs : List ℕ) (x : ℕ) → hops ku kl ss r qs ≡ some x → (qs ≡ ps) ⊎ Earlier ps qs
 
--- the positions of all nodes, a byte each
-pub record Picked (ku kl : ℕ) (ss : List Step) (a : Positions) : Type 0 where
-  pub cells : length (a .ps) ≡ 512
-  pub first : First ku kl ss 0 (take (length ss) (a .ps))
+-- the positions of all nodes, from 0, a byte each
+pub record Picked (ku kl : ℕ) (ss : List Step) (ps : List ℕ) : Type 0 where
+  pub cells : length ps ≡ 512
+  pub first : First ku kl ss 0 (take (length ss) ps)

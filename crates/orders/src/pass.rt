@@ -21,11 +21,6 @@ ghost use Rattle.steps.specs.Masks.{Sources};
 ghost use Rattle.steps.specs.Leading.{Onward, Reached};
 ghost use Rattle.orders.specs.Passes.{Given, Forward, Filled, Passable, Pruned, Somewhere, Entry};
 
-// The position of each node, from 0.
-pub struct Positions {
-    pub ps: [u8; 512],
-}
-
 // Marks in the gap after each node the ranks that ways lead to, whatever stood there, and tells how many nodes can be passed.
 pub fn forward(
     work: &mut [u8],

@@ -63,13 +63,13 @@ module _ (row kinds ages counts : List ℕ) (ku kl : ℕ) (work out : List ℕ) 
   ss = steps ks (take n ages) (take n counts)
 
   pub kinds-cut : n ≡ length ks
-  kinds-cut = sym (length-take-le n kinds (omega (arith, told .kind-cells, fit .most)))
+  kinds-cut = sym (length-take-le n kinds (omega (arith, told .cells .kind-cells, fit .most)))
 
   pub ages-cut : n ≡ length (take n ages)
-  ages-cut = sym (length-take-le n ages (omega (arith, told .age-cells, fit .most)))
+  ages-cut = sym (length-take-le n ages (omega (arith, told .cells .age-cells, fit .most)))
 
   pub counts-cut : n ≡ length (take n counts)
-  counts-cut = sym (length-take-le n counts (omega (arith, told .count-cells, fit .most)))
+  counts-cut = sym (length-take-le n counts (omega (arith, told .cells .count-cells, fit .most)))
 
   pub work-cut : 90 * n ≡ length (take (90 * n) work)
   work-cut = sym (length-take-le (90 * n) work (fit .work-long))
@@ -138,7 +138,7 @@ module _ (row kinds ages counts : List ℕ) (ku kl : ℕ) (work out : List ℕ) 
             lower = fit .lower;
             long = sym places-cut ∙ kinds-cut;
             few = omega (arith, kinds-cut, fit .most);
-            kind = below-mono (omega arith) (below-take n (told .small));
+            kind = below-mono (omega arith) (below-take n (told .cells .small));
             place = places-low ku kl (fit .upper) (nodes row) [] (take n ps) [] (is-first .placing);
             room = rw (← kinds-cut) (fit .sheet-long);
           }

@@ -6,7 +6,6 @@ mod walk;
 use rules::Routing;
 use script::labels::lone;
 use script::labels::scan;
-use script::plan::Script;
 use script::plan::tell;
 use search::search;
 use streets::Streets;
@@ -47,9 +46,9 @@ fn route_narrow(row: &[u8], ku: u8, kl: u8, work: &mut [u8], sheet: &mut [u8]) -
     ensures { λ r. ⌜ Routed (now (row .entry)) ku kl (now (work .entry)) (now (sheet .entry)) r (now (work .exit)) (now (sheet .exit)) ⌝ }
 {
     let n = row.len();
-    let tables = scan(row);
-    let first = tables.first;
-    let last = tables.last;
+    let mut first = [0u16; 256];
+    let mut last = [0u16; 256];
+    scan(row, &mut first, &mut last);
     let alone = lone(row, &first, &last);
     if alone < n {
         return Routing::Lone(alone + 1);
@@ -60,22 +59,32 @@ fn route_narrow(row: &[u8], ku: u8, kl: u8, work: &mut [u8], sheet: &mut [u8]) -
     if sheet.len() < sheet_size(n) {
         return Routing::SheetShort;
     }
-    let plan = tell(row, &first, &last);
-    lay(row, plan, ku, kl, work, sheet)
+    let mut kinds = [0u8; 512];
+    let mut ages = [0u8; 512];
+    let mut counts = [0u8; 512];
+    tell(row, &first, &last, &mut kinds, &mut ages, &mut counts);
+    lay(row, &kinds, &ages, &counts, ku, kl, work, sheet)
 }
 
 // 6, or the first placing's sheet, of a row that passes checks 1 to 5, with its plan.
-fn lay(row: &[u8], plan: Script, ku: u8, kl: u8, work: &mut [u8], sheet: &mut [u8]) -> Routing
+fn lay(
+    row: &[u8],
+    kinds: &[u8],
+    ages: &[u8],
+    counts: &[u8],
+    ku: u8,
+    kl: u8,
+    work: &mut [u8],
+    sheet: &mut [u8],
+) -> Routing
     requires { ⌜ Fit (now row) ku kl (now work) (now sheet) ⌝ }
-    requires { ⌜ Told (now row) (plan .kinds) (plan .ages) (plan .counts) ⌝ }
+    requires { ⌜ Told (now row) (now kinds) (now ages) (now counts) ⌝ }
     ensures { λ r. ⌜ Laid (now (row .entry)) ku kl (now (work .entry)) (now (sheet .entry)) r (now (work .exit)) (now (sheet .exit)) ⌝ }
 {
     let n = row.len();
-    let kinds = plan.kinds;
-    let ages = plan.ages;
-    let counts = plan.counts;
     let room = 90 * n;
-    let found = search(
+    let mut places = [0u8; 512];
+    let passed = search(
         row,
         &mut work[..room],
         &kinds[..n],
@@ -83,12 +92,11 @@ fn lay(row: &[u8], plan: Script, ku: u8, kl: u8, work: &mut [u8], sheet: &mut [u
         &counts[..n],
         ku,
         kl,
+        &mut places,
     );
-    let passed = found.passed;
     if passed < n {
         return Routing::Stuck(passed + 1);
     }
-    let places = found.ps;
     write_sheet(sheet, &kinds[..n], &places[..n], ku, kl);
     Routing::Sheet(n)
 }

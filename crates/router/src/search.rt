@@ -4,19 +4,16 @@ use orders::pass::forward;
 use orders::pass::prune;
 use orders::set::wipe;
 use steps::four::TABLES;
+ghost use mathlib.Core.Path.{_≡_};
+ghost use lib.ListN.{length};
 ghost use Rattle.steps.specs.Plan.{steps};
 ghost use Rattle.steps.specs.Four.{Tables};
 ghost use Rattle.orders.specs.Passes.{Given};
 ghost use Rattle.router.specs.Walk.{Planned};
 ghost use Rattle.router.specs.Search.{Searched};
 
-// How many nodes can be passed, and where all can, the places of the first way through them.
-pub struct Outcome {
-    pub passed: usize,
-    pub ps: [u8; 512],
-}
-
-// Searches a row by its plan in lent bytes, which are clear afterwards, whatever stood there.
+// Searches a row by its plan in lent bytes, which are clear afterwards, whatever stood there: how many nodes can be passed, and where all can, in `ps` the places
+// of the first way through them.
 pub fn search(
     row: &[u8],
     work: &mut [u8],
@@ -25,13 +22,15 @@ pub fn search(
     counts: &[u8],
     ku: u8,
     kl: u8,
-) -> Outcome
+    ps: &mut [u8; 512],
+) -> usize
     requires { ⌜ Given (now kinds) (now ages) (now counts) (now work) ku kl ⌝ }
     requires { ⌜ Planned (now row) (now kinds) (now ages) (now counts) ⌝ }
-    ensures { λ r. ⌜ Searched ku kl (steps (now (kinds .entry)) (now (ages .entry)) (now (counts .entry))) (now (work .entry)) (now (work .exit)) (r .passed) (r .ps) ⌝ }
+    requires { ⌜ length (now ps) ≡ 512 ⌝ }
+    ensures { λ n. ⌜ Searched ku kl (steps (now (kinds .entry)) (now (ages .entry)) (now (counts .entry))) (now (work .entry)) (now (work .exit)) n (now (ps .exit)) ⌝ }
 {
     let tables = &TABLES;
-    search_by(row, work, kinds, ages, counts, ku, kl, tables)
+    search_by(row, work, kinds, ages, counts, ku, kl, tables, ps)
 }
 
 // The same, with the tables that all passes read, lent once.
@@ -44,23 +43,20 @@ fn search_by(
     ku: u8,
     kl: u8,
     tables: &[u32],
-) -> Outcome
+    ps: &mut [u8; 512],
+) -> usize
     requires { ⌜ Given (now kinds) (now ages) (now counts) (now work) ku kl ⌝ }
     requires { ⌜ Planned (now row) (now kinds) (now ages) (now counts) ⌝ }
-    requires { ⌜ Tables (now tables) ⌝ }
-    ensures { λ r. ⌜ Searched ku kl (steps (now (kinds .entry)) (now (ages .entry)) (now (counts .entry))) (now (work .entry)) (now (work .exit)) (r .passed) (r .ps) ⌝ }
+    requires { ⌜ Tables (now tables) × (length (now ps) ≡ 512) ⌝ }
+    ensures { λ n. ⌜ Searched ku kl (steps (now (kinds .entry)) (now (ages .entry)) (now (counts .entry))) (now (work .entry)) (now (work .exit)) n (now (ps .exit)) ⌝ }
 {
     let passed = forward(work, kinds, ages, counts, ku, kl, tables);
     if passed < kinds.len() {
         wipe(work);
-        return Outcome {
-            passed,
-            ps: [0u8; 512],
-        };
+        return passed;
     }
     prune(work, kinds, ages, counts, ku, kl, tables);
-    let picked = walk(row, work, kinds, ages, counts, ku, kl, tables);
+    walk(row, work, kinds, ages, counts, ku, kl, tables, ps);
     wipe(work);
-    let ps = picked.ps;
-    Outcome { passed, ps }
+    passed
 }

@@ -1,5 +1,4 @@
 // The last pass: the row once more, with the rank that the first placing has after each node, and the order of that rank, by labels.
-use orders::pass::Positions;
 use orders::pass::enter;
 use orders::pass::stop_at;
 use steps::rank::Stop;
@@ -7,6 +6,7 @@ use steps::rank::locate;
 use street::Order;
 ghost use mathlib.Core.Path.{_≡_};
 ghost use mathlib.Core.List.{map};
+ghost use lib.ListN.{length};
 ghost use Rattle.rules.specs.Row.{Node, nodes};
 ghost use Rattle.rules.specs.Street.{kind};
 ghost use Rattle.rules.specs.Sheet.{code};
@@ -22,7 +22,7 @@ struct Turn {
     held: Order,
 }
 
-// The first positions, in reading order, that lead through all nodes: a new net goes to the least place whose rank is marked, another stands where the
+// Fills in the first positions, in reading order, that lead through all nodes: a new net goes to the least place whose rank is marked, another stands where the
 // order has it.
 pub fn walk(
     row: &[u8],
@@ -33,16 +33,16 @@ pub fn walk(
     ku: u8,
     kl: u8,
     tables: &[u32],
-) -> Positions
+    ps: &mut [u8; 512],
+)
     requires { ⌜ Given (now kinds) (now ages) (now counts) (now work) ku kl ⌝ }
     requires { ⌜ Kept ku kl (steps (now kinds) (now ages) (now counts)) (now work) ⌝ }
     requires { ⌜ Passable ku kl (steps (now kinds) (now ages) (now counts)) ⌝ }
     requires { ⌜ Planned (now row) (now kinds) (now ages) (now counts) ⌝ }
     requires { ⌜ now kinds ≡ map (λ (n : Node). code (kind n)) (nodes (now row)) ⌝ }
-    requires { ⌜ Tables (now tables) ⌝ }
-    ensures { λ a. ⌜ Picked ku kl (steps (now (kinds .entry)) (now (ages .entry)) (now (counts .entry))) a ⌝ }
+    requires { ⌜ Tables (now tables) × (length (now ps) ≡ 512) ⌝ }
+    ensures { λ _. ⌜ Picked ku kl (steps (now (kinds .entry)) (now (ages .entry)) (now (counts .entry))) (now (ps .exit)) ⌝ }
 {
-    let mut ps = [0u8; 512];
     let mut held = Order::new();
     let mut r: usize = 0;
     let mut i = 0;
@@ -54,7 +54,6 @@ pub fn walk(
         held = turn.held;
         i += 1;
     }
-    Positions { ps }
 }
 
 // One node.

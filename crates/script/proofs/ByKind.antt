@@ -1,17 +1,19 @@
 -- What a node of each kind does to the open nets, youngest first.
 use mathlib.Core.Path.{_≡_, refl, sym, ap, _∙_}
 use mathlib.Core.Bool.{Bool, true, false, not}
-use Prim.Native.Nat.{ℕ}
+use mathlib.Core.List.{List, _∷_}
+use Prim.Native.Nat.{ℕ, suc, _-_, _<_}
 use native.Mathlib.Omega.{arith}
+use lib.ListN.{getD}
 use lib.Dec.{eqb}
 use borrow.Author.Tests.{eq-eqb, ne-eqb}
-use Rattle.rules.specs.Basic.{put, cut}
+use Rattle.rules.specs.Basic.{cut}
 use Rattle.rules.specs.Row.{before, kindOf}
 use Rattle.rules.specs.Sheet.{code, kindIn}
-use Rattle.street.specs.declared.Order.{Order}
-use Rattle.street.specs.Order.{capacity, listed, Sound}
+use Rattle.street.specs.Order.{capacity}
 use Rattle.steps.specs.Plan.{young, age}
-use Rattle.script.specs.Told.{Turns}
+use Rattle.script.specs.Told.{lined, Lined, Closed, Turning, Turns}
+use Rattle.script.proofs.Lining.{found}
 
 -- the kind field of node i, by its net's first and last node
 abbrev pub kindBy : (first last i : ℕ) → ℕ
@@ -38,35 +40,53 @@ module _ (first last i : ℕ) where
       go true d = omega arith
       go false d = omega arith
 
-module _ (held : Order) (x : ℕ) where
+-- a node that begins no net finds its own by its label
+pub touched : (nets elders : List ℕ) (b first last i x : ℕ) → Lined nets elders b → Turning (lined nets b) (kindBy first last i) x → (first ≡ i → ⊥)
+    → (getD elders x 0 < b) × (b - 1 - getD elders x 0 ≡ before x (lined nets b))
+touched nets elders b first last i x l t n =
+    let f = found nets elders b l x (t .there (not-begun first last i n)) in
+    (f .0, omega (arith, f .0, f .1))
+
+module _ (nets : List ℕ) (b x : ℕ) where
   -- a net begins where no more can be open
-  pub turns-full : held .count ≡ capacity → Turns held 0 x 0 true 0 held
-  turns-full e =
+  pub turns-full : (elders : List ℕ) → Lined nets elders b → b ≡ capacity → Turns nets b 0 x 0 true 0 nets elders b
+  turns-full elders l e =
       record {
         kind-is = refl;
-        full-is = sym (eq-eqb (held .count) capacity e);
+        full-is = sym (eq-eqb b capacity e);
+        lines = l;
         turned = λ z. let d : _≡_ {A = ℕ} 0 1 = cc in absurd (omega arith);
       }
 
-  pub turns-begun : (held .count ≡ capacity → ⊥) → (next : Order) → Sound next → listed next ≡ put 0 x (listed held) → Turns held 0 x 0 false 0 next
-  unfolding put kindIn young age
-  turns-begun n next s e =
+  pub turns-begun : (b ≡ capacity → ⊥) → (nets′ elders′ : List ℕ) (b′ : ℕ) → Lined nets′ elders′ b′ → lined nets′ b′ ≡ x ∷ lined nets b
+      → Turns nets b 0 x 0 false 0 nets′ elders′ b′
+  unfolding kindIn young age
+  turns-begun n nets′ elders′ b′ l e =
       record {
         kind-is = refl;
-        full-is = sym (ne-eqb (held .count) capacity n);
-        turned = λ z. record { sound = s; aged = refl; list = e };
+        full-is = sym (ne-eqb b capacity n);
+        lines = l;
+        turned = λ z. record { aged = refl; list = e };
       }
 
-  module _ (a : ℕ) (found : a ≡ before x (listed held)) where
-    pub turns-met : Sound held → Turns held 1 x 1 false a held
+  module _ (a : ℕ) (aged : a ≡ before x (lined nets b)) where
+    pub turns-met : (elders : List ℕ) → Lined nets elders b → Turns nets b 1 x 1 false a nets elders b
     unfolding kindIn young age
-    turns-met s = record { kind-is = refl; full-is = refl; turned = λ z. record { sound = s; aged = found; list = refl } }
+    turns-met elders l = record { kind-is = refl; full-is = refl; lines = l; turned = λ z. record { aged = aged; list = refl } }
 
-    pub turns-ended : (next : Order) → Sound next → listed next ≡ cut a (listed held) → Turns held 2 x 2 false a next
+    pub turns-ended : (e c : ℕ) → b ≡ suc c → c - e ≡ a → (nets′ elders′ : List ℕ) → Closed nets e c nets′ elders′ → Turns nets b 2 x 2 false a nets′ elders′ c
     unfolding kindIn young age
-    turns-ended next s e =
+    turns-ended e c s q nets′ elders′ closed =
         record {
           kind-is = refl;
           full-is = refl;
-          turned = λ z. record { sound = s; aged = found; list = e ∙ ap (λ (k : ℕ). cut k (listed held)) found };
+          lines = closed .lines;
+          turned = λ z.
+              record {
+                aged = aged;
+                list =
+                    closed .list
+                    ∙ ap (λ (n : ℕ). cut (c - e) (lined nets n)) (sym s)
+                    ∙ ap (λ (k : ℕ). cut k (lined nets b)) (q ∙ aged);
+              };
         }

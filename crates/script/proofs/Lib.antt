@@ -2,6 +2,7 @@
 pub mod Noting
 pub mod Renaming
 pub mod Touched
+pub mod Lining
 pub mod ByKind
 pub mod Telling
 pub mod Passed

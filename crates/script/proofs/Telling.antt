@@ -8,25 +8,23 @@ use native.Mathlib.Omega.{arith}
 use lib.ListN.{length, getD, take, drop, set, replicate, length-set, length-map, length-drop, length-replicate, drop-of-length-le}
 use lib.Seq.{append-snoc, drop-cons, getD-take, getD-set-same, getD-set-other, set-getD, length-take-le}
 use lib.Dec.{eqb}
-use borrow.Author.Tests.{eqb-true, eqb-false, eq-eqb}
-use Rattle.rules.specs.Basic.{tabulate}
+use borrow.Author.Tests.{eqb-true, eqb-false, eq-eqb, ne-eqb}
+use Rattle.rules.specs.Basic.{pick, cut, tabulate}
 use Rattle.rules.specs.Bits.{Below, nil, cons}
-use Rattle.rules.specs.Row.{before, home, Kind, B, Node, node, nodeAt, nodes, kindOf}
+use Rattle.rules.specs.Row.{before, home, later, Kind, B, M, E, Node, node, nodeAt, nodes, kindOf}
 use Rattle.rules.specs.Street.{kind}
 use Rattle.rules.specs.Sheet.{code, kindIn}
-use Rattle.rules.proofs.Pins.{length-tabulate, getD-tabulate, tabulate-cong, before-found}
-use Rattle.rules.proofs.Fields.{below-replicate}
+use Rattle.rules.proofs.Pins.{length-tabulate, getD-tabulate, tabulate-cong, before-found, home-le}
+use Rattle.rules.proofs.Fields.{below-mono, below-replicate}
 use Rattle.rules.proofs.Legal.{kindIn-code, code-lt}
-use Rattle.street.specs.declared.Order.{Order}
-use Rattle.street.specs.Order.{capacity, listed, Sound, Emptied}
-use Rattle.street.proofs.Orders.{length-listed}
+use Rattle.street.specs.Order.{capacity}
 use Rattle.steps.specs.Plan.{Step, step, young, age, Tells, steps}
 use Rattle.script.specs.Tabled.{noted, Tabled}
-use Rattle.script.specs.Told.{Turning, Turned, Told}
+use Rattle.script.specs.Told.{Turning, Turned, Cells, Told}
 use Rattle.script.proofs.Noting.{begins-here, later-not-last}
 use Rattle.rules.proofs.Renamed.{home-only, before-map}
 use Rattle.script.proofs.Renaming.{age-map, young-map}
-use Rattle.script.proofs.Touched.{Kept, kept-none, kept-next, node-open}
+use Rattle.script.proofs.Touched.{Kept, kept-none, kept-next, node-open, M-begins-not, E-begins-not}
 
 -- ---- nodes one by one
 
@@ -121,42 +119,38 @@ below-set (suc i) v h (cons b r) = cons b (below-set i v h r)
 
 -- ---- the invariant of the loop
 
--- the first nodes of the open nets, whose labels the order holds
-abbrev homes : List ℕ → Order → List ℕ
-homes row held = map (λ x. before x row) (listed held)
+-- the first nodes of open nets with these labels
+abbrev homes : (row l : List ℕ) → List ℕ
+homes row l = map (λ x. before x row) l
 
-pub record Telling (row kinds ages counts : List ℕ) (held : Order) (i : ℕ) : Type 0 where
+-- the plan of the nodes before i, where the nets with the labels l are open, youngest first
+pub record Telling (row kinds ages counts l : List ℕ) (i : ℕ) : Type 0 where
   pub upto : i ≤ length row
-  pub kind-cells : length kinds ≡ 512
-  pub age-cells : length ages ≡ 512
-  pub count-cells : length counts ≡ 512
-  pub small : Below 3 kinds
-  pub sound : Sound held
-  going : Going row (toldTo kinds ages counts i) i (homes row held)
+  pub cells : Cells kinds ages counts
+  begun : Below i (homes row l)
+  going : Going row (toldTo kinds ages counts i) i (homes row l)
 
-pub telling-none : (row : List ℕ) (held : Order) → Emptied held → Telling row (replicate 512 0) (replicate 512 0) (replicate 512 0) held 0
-unfolding tabulate
-telling-none row held e =
+-- cleared arrays
+pub cells-clear : Cells (replicate 512 0) (replicate 512 0) (replicate 512 0)
+cells-clear =
     record {
-      upto = omega arith;
       kind-cells = length-replicate {A = ℕ} 512 0;
       age-cells = length-replicate {A = ℕ} 512 0;
       count-cells = length-replicate {A = ℕ} 512 0;
       small = below-replicate 512 (omega arith);
-      sound = e .sound;
-      going = subst (λ (l : List ℕ). Going row [] 0 (map (λ x. before x row) l)) (sym (e .list)) (going-none row);
     }
 
-pub telling-end : (row kinds ages counts : List ℕ) (held : Order) (i : ℕ) → length row ≤ 512 → Telling row kinds ages counts held i → i ≡ length row
+pub telling-none : (row kinds ages counts : List ℕ) → Cells kinds ages counts → Telling row kinds ages counts [] 0
+unfolding tabulate
+telling-none row kinds ages counts cells = record { upto = omega arith; cells = cells; begun = nil; going = going-none row }
+
+pub telling-end : (row kinds ages counts l : List ℕ) (i : ℕ) → length row ≤ 512 → Telling row kinds ages counts l i → i ≡ length row
     → Told row kinds ages counts
-telling-end row kinds ages counts held i few t e =
+telling-end row kinds ages counts l i few t e =
     record {
-      kind-cells = t .kind-cells;
-      age-cells = t .age-cells;
-      count-cells = t .count-cells;
-      small = t .small;
+      cells = t .cells;
       tells =
-          rw (steps-told kinds ages counts (length row) (omega (arith, t .kind-cells)), ← e) (going-end row (toldTo kinds ages counts i) i (homes row held) (t .going) e);
+          rw (steps-told kinds ages counts (length row) (omega (arith, t .cells .kind-cells)), ← e) (going-end row (toldTo kinds ages counts i) i (homes row l) (t .going) e);
     }
 
 -- both tests of a pair
@@ -164,14 +158,26 @@ and-true : (a b : Bool) → (a && b) ≡ true → (a ≡ true) × (b ≡ true)
 and-true true b e = (refl, e)
 and-true false b e = let z : _≡_ {A = ℕ} 0 1 = cc in absurd (omega arith)
 
-module _ (row first last kinds ages counts : List ℕ) (held : Order) (i k : ℕ) (tabled : Tabled row first last) (few : length row ≤ 512)
-    (t : Telling row kinds ages counts held i) (h : i < length row)
-    (told : k ≡ code (kindOf (eqb (noted row first i) i) (not (eqb (noted row last i) i)))) where
+below-cut : {m : ℕ} {l : List ℕ} (k : ℕ) → Below m l → Below m (cut k l)
+unfolding cut
+below-cut k nil = nil
+below-cut zero (cons b r) = r
+below-cut (suc k) (cons b r) = cons b (below-cut k r)
+
+-- what is above all of a list is not in it
+above-absent : (x : ℕ) {l : List ℕ} → Below x l → length l ≤ before x l
+unfolding before pick
+above-absent x nil = omega arith
+above-absent x (cons {x = y} b r) = rw (ne-eqb y x (λ e. omega arith)) (omega (arith, above-absent x r))
+
+module _ (row first last kinds ages counts l : List ℕ) (i k b : ℕ) (tabled : Tabled row first last) (few : length row ≤ 512)
+    (t : Telling row kinds ages counts l i) (h : i < length row) (long : length l ≡ b)
+    (told : k ≡ code (kindOf (eqb (noted row first i) (suc i)) (not (eqb (noted row last i) (suc i))))) where
   x : ℕ
   x = getD row i 0
 
   o : List ℕ
-  o = homes row held
+  o = homes row l
 
   kind-told : k ≡ code (kind (nodeAt row i))
   unfolding nodeAt kind
@@ -196,84 +202,112 @@ module _ (row first last kinds ages counts : List ℕ) (held : Order) (i k : ℕ
   unfolding x
   only = home-only row x (omega (arith, before-found row i h))
 
-  length-o : length o ≡ held .count
+  length-o : length o ≡ b
   unfolding o
-  length-o = length-map (listed held) (λ y. before y row) ∙ length-listed held (t .sound)
+  length-o = length-map l (λ y. before y row) ∙ long
 
-  room : (eqb k 0 && eqb (held .count) capacity) ≡ false → k ≡ 0 → held .count < 6
-  room test e = go (eqb (held .count) capacity) refl
+  room : b ≤ capacity → (eqb k 0 && eqb b capacity) ≡ false → k ≡ 0 → b < 6
+  room most test e = go (eqb b capacity) refl
     where
-      go : (b : Bool) → eqb (held .count) capacity ≡ b → held .count < 6
+      go : (z : Bool) → eqb b capacity ≡ z → b < 6
       go true p = let z : _≡_ {A = ℕ} 0 1 = cc (eq-eqb k 0 e) in absurd (omega arith)
-      go false p = omega (arith, eqb-false (held .count) capacity p, t .sound .few)
+      go false p = omega (arith, eqb-false b capacity p)
+
+  -- a net that begins here has its first node here
+  own-home : kind (nodeAt row i) ≡ B → home row i ≡ i
+  unfolding nodeAt kind kindOf
+  own-home = go (eqb (home row i) i) refl
+    where
+      later-begins-not : (b : Bool) → kindOf false b ≡ B → ⊥
+      later-begins-not true e = M-begins-not e
+      later-begins-not false e = E-begins-not e
+
+      go : (f : Bool) → eqb (home row i) i ≡ f → kindOf f (later row i) ≡ B → home row i ≡ i
+      go true p e = eqb-true (home row i) i p
+      go false p e = absurd (later-begins-not (later row i) e)
 
   -- what a node asks of the open nets
-  pub telling-turning : Turning held k (getD row i 0)
+  pub telling-turning : Turning l k (getD row i 0)
   unfolding x o home nodeAt kind
   telling-turning =
       record {
-        sound = t .sound;
+        fresh = λ e.
+            let own : before x row ≡ i = own-home (begins e) in
+            let q : length o ≤ before (before x row) o = above-absent (before x row) (below-mono (omega arith) (t .begun)) in
+            omega (arith, q, length-o, before-map (λ y. before y row) x only l);
         there = λ n.
             let q : before (home row i) o < length o =
             node-open row i h o (t .going .kept) (kind (nodeAt row i)) (home row i) (λ e. n (begun e)) refl in
-            omega (arith, q, length-o, before-map (λ y. before y row) x only (listed held));
+            omega (arith, q, length-o, before-map (λ y. before y row) x only l);
       }
 
+  still-begun : (K : Kind) → Below (suc i) (young (node K (home row i)) o)
+  unfolding young o
+  still-begun B = cons {x = home row i} (omega (arith, home-le row i h)) (below-mono (omega arith) (t .begun))
+  still-begun M = below-mono (omega arith) (t .begun)
+  still-begun E = below-cut (before (home row i) o) (below-mono (omega arith) (t .begun))
+
   -- a node on
-  pub telling-more : (eqb k 0 && eqb (held .count) capacity) ≡ false → (a : ℕ) (next : Order) → Turned held k (getD row i 0) a next
-      → Telling row (set kinds i k) (set ages i a) (set counts i (held .count)) next (suc i)
+  pub telling-more : b ≤ capacity → (eqb k 0 && eqb b capacity) ≡ false → (a : ℕ) (next : List ℕ) → Turned l k (getD row i 0) a next
+      → Telling row (set kinds i k) (set ages i a) (set counts i b) next (suc i)
   unfolding x o home nodeAt kind
-  telling-more test a next turned =
+  telling-more most test a next turned =
       let f : ℕ → ℕ = λ y. before y row in
       let K : Kind = kind (nodeAt row i) in
-      let g = going-more row (toldTo kinds ages counts i) i o (t .going) h (λ e. omega (arith, length-o, room test (begun e))) in
+      let g = going-more row (toldTo kinds ages counts i) i o (t .going) h (λ e. omega (arith, length-o, room most test (begun e))) in
       let aged : a ≡ age (nodeAt row i) o =
-      turned .aged ∙ ap (λ (j : Kind). age (node j x) (listed held)) kind-in ∙ sym (age-map f x only K (listed held)) in
+      turned .aged ∙ ap (λ (j : Kind). age (node j x) l) kind-in ∙ sym (age-map f x only K l) in
       let opened : young (nodeAt row i) o ≡ homes row next =
-      young-map f x only K (listed held) ∙ ap (λ (j : Kind). map f (young (node j x) (listed held))) (sym kind-in) ∙ ap (map f) (sym (turned .list)) in
+      young-map f x only K l ∙ ap (λ (j : Kind). map f (young (node j x) l)) (sym kind-in) ∙ ap (map f) (sym (turned .list)) in
       let done : toldTo kinds ages counts i ++ (step (code K) (age (nodeAt row i) o) (length o) ∷ [])
-      ≡ toldTo (set kinds i k) (set ages i a) (set counts i (held .count)) (suc i) =
+      ≡ toldTo (set kinds i k) (set ages i a) (set counts i b) (suc i) =
       ap (λ (s : Step). toldTo kinds ages counts i ++ (s ∷ [])) (step-same (sym kind-told) (sym aged) length-o)
-      ∙ sym (stored kinds ages counts i k a (held .count) (omega (arith, t .kind-cells)) (omega (arith, t .age-cells)) (omega (arith, t .count-cells))) in
+      ∙ sym (stored kinds ages counts i k a b (omega (arith, t .cells .kind-cells)) (omega (arith, t .cells .age-cells)) (omega (arith, t .cells .count-cells))) in
       record {
         upto = h;
-        kind-cells = length-set kinds i k ∙ t .kind-cells;
-        age-cells = length-set ages i a ∙ t .age-cells;
-        count-cells = length-set counts i (held .count) ∙ t .count-cells;
-        small = below-set i k kind-small (t .small);
-        sound = turned .sound;
-        going = subst₂ (λ (d : List Step) (l : List ℕ). Going row d (suc i) l) done opened g;
+        cells =
+            record {
+              kind-cells = length-set kinds i k ∙ t .cells .kind-cells;
+              age-cells = length-set ages i a ∙ t .cells .age-cells;
+              count-cells = length-set counts i b ∙ t .cells .count-cells;
+              small = below-set i k kind-small (t .cells .small);
+            };
+        begun = subst (λ (m : List ℕ). Below (suc i) m) opened (still-begun K);
+        going = subst₂ (λ (d : List Step) (m : List ℕ). Going row d (suc i) m) done opened g;
       }
 
   -- a node that begins a net and finds six open
-  pub telling-full : (eqb k 0 && eqb (held .count) capacity) ≡ true → Told row (set kinds i k) ages (set counts i (held .count))
+  pub telling-full : (eqb k 0 && eqb b capacity) ≡ true → Told row (set kinds i k) ages (set counts i b)
   unfolding o
   telling-full test =
-      let both = and-true (eqb k 0) (eqb (held .count) capacity) test in
+      let both = and-true (eqb k 0) (eqb b capacity) test in
       let k≡ : k ≡ 0 = eqb-true k 0 (both .0) in
-      let c≡ : held .count ≡ 6 = eqb-true (held .count) capacity (both .1) in
+      let c≡ : b ≡ 6 = eqb-true b capacity (both .1) in
       let a : ℕ = getD ages i 0 in
       let m : ℕ = length row - suc i in
       let n≡ : length row ≡ suc i + m = omega arith in
       let K : List ℕ = set kinds i k in
-      let C : List ℕ = set counts i (held .count) in
+      let C : List ℕ = set counts i b in
       let f : ℕ → Step = λ j. step (getD K j 0) (getD ages j 0) (getD C j 0) in
       let ss : List Step = tabulate (λ j. f (suc i + j)) m in
       let done : List Step = toldTo kinds ages counts i in
       let all : steps (take (length row) K) (take (length row) ages) (take (length row) C) ≡ done ++ (step 0 a 6 ∷ ss) =
-      steps-told K ages C (length row) (omega (arith, t .kind-cells, length-set kinds i k))
+      steps-told K ages C (length row) (omega (arith, t .cells .kind-cells, length-set kinds i k))
       ∙ ap (tabulate f) n≡
       ∙ tabulate-add f (suc i) m
       ∙ ap (λ (l : List Step). l ++ ss)
       (ap (λ (l : List ℕ). toldTo K l C (suc i)) (sym (set-getD ages i 0))
-      ∙ stored kinds ages counts i k a (held .count) (omega (arith, t .kind-cells)) (omega (arith, t .age-cells)) (omega (arith, t .count-cells))
+      ∙ stored kinds ages counts i k a b (omega (arith, t .cells .kind-cells)) (omega (arith, t .cells .age-cells)) (omega (arith, t .cells .count-cells))
       ∙ ap (λ (s : Step). done ++ (s ∷ [])) (step-same k≡ refl c≡))
       ∙ append-snoc done (step 0 a 6) ss in
       record {
-        kind-cells = length-set kinds i k ∙ t .kind-cells;
-        age-cells = t .age-cells;
-        count-cells = length-set counts i (held .count) ∙ t .count-cells;
-        small = below-set i k kind-small (t .small);
+        cells =
+            record {
+              kind-cells = length-set kinds i k ∙ t .cells .kind-cells;
+              age-cells = t .cells .age-cells;
+              count-cells = length-set counts i b ∙ t .cells .count-cells;
+              small = below-set i k kind-small (t .cells .small);
+            };
         tells =
             rw all
             (going-full row done i o (t .going) h (begins k≡) (length-o ∙ c≡) a ss (length-tabulate (λ j. f (suc i + j)) m));

@@ -1,38 +1,60 @@
--- The plan that is told of a row, and what a node does to the order of open labels that it is told from.
+-- The plan that is told of a row, and what a node does to the labels of the open nets that it is told from.
 use mathlib.Core.Path.{_≡_}
 use mathlib.Core.Bool.{Bool, false, _&&_}
-use mathlib.Core.List.{List, []}
-use Prim.Native.Nat.{ℕ, _<_}
-use lib.ListN.{length, take}
+use mathlib.Core.List.{List, [], _∷_}
+use Prim.Native.Nat.{ℕ, zero, suc, _-_, _≤_, _<_}
+use lib.ListN.{length, getD, take}
 use lib.Dec.{eqb}
+use Rattle.rules.specs.Basic.{cut}
 use Rattle.rules.specs.Row.{before, node, nodes}
 use Rattle.rules.specs.Sheet.{kindIn}
 use Rattle.rules.specs.Bits.{Below}
-use Rattle.street.specs.declared.Order.{Order}
-use Rattle.street.specs.Order.{capacity, listed, Sound}
+use Rattle.street.specs.Order.{capacity}
 use Rattle.steps.specs.Plan.{young, age, Tells, steps}
 
--- a node that begins no net finds its own open
-pub record Turning (held : Order) (kind x : ℕ) : Type 0 where
-  pub sound : Sound held
-  pub there : (kind ≡ 0 → ⊥) → before x (listed held) < held .count
+-- what the first b cells hold, the last of them first: labels of open nets that stand there oldest first are so listed youngest first
+unfoldable pub lined : List ℕ → ℕ → List ℕ
+lined nets zero = []
+lined nets (suc b) = getD nets b 0 ∷ lined nets b
+
+-- the labels of b open nets stand in cells, oldest first, and by label a table tells how many are older
+pub record Lined (nets elders : List ℕ) (b : ℕ) : Type 0 where
+  pub cells : length nets ≡ capacity
+  pub entries : length elders ≡ 256
+  pub few : b ≤ capacity
+  pub labels : (k : ℕ) → k < b → getD nets k 0 < 256
+  pub known : (k : ℕ) → k < b → getD elders (getD nets k 0) 0 ≡ k
+
+-- one of them is gone, with e older, and b are left
+pub record Closed (nets : List ℕ) (e b : ℕ) (nets′ elders′ : List ℕ) : Type 0 where
+  pub lines : Lined nets′ elders′ b
+  pub list : lined nets′ b ≡ cut (b - e) (lined nets (suc b))
+
+-- a node that begins a net finds its label among those of no open net, and any other finds its own there
+pub record Turning (o : List ℕ) (kind x : ℕ) : Type 0 where
+  pub fresh : kind ≡ 0 → length o ≤ before x o
+  pub there : (kind ≡ 0 → ⊥) → before x o < length o
 
 -- the age of the node's net, and the open nets after it
-pub record Turned (held : Order) (kind x a : ℕ) (next : Order) : Type 0 where
-  pub sound : Sound next
-  pub aged : a ≡ age (node (kindIn kind) x) (listed held)
-  pub list : listed next ≡ young (node (kindIn kind) x) (listed held)
+pub record Turned (o : List ℕ) (kind x a : ℕ) (next : List ℕ) : Type 0 where
+  pub aged : a ≡ age (node (kindIn kind) x) o
+  pub list : next ≡ young (node (kindIn kind) x) o
 
--- a node of kind field k, and whether it begins a net where no more can be open; where not, its net's age and the open nets after it
-pub record Turns (held : Order) (k x kind : ℕ) (full : Bool) (a : ℕ) (next : Order) : Type 0 where
+-- a node of kind field k where b nets are open, and whether it begins one where no more can be; where not, its net's age and the open nets after it
+pub record Turns (nets : List ℕ) (b k x kind : ℕ) (full : Bool) (a : ℕ) (nets′ elders′ : List ℕ) (b′ : ℕ) : Type 0 where
   pub kind-is : kind ≡ k
-  pub full-is : full ≡ (eqb k 0 && eqb (held .count) capacity)
-  pub turned : full ≡ false → Turned held k x a next
+  pub full-is : full ≡ (eqb k 0 && eqb b capacity)
+  pub lines : Lined nets′ elders′ b′
+  pub turned : full ≡ false → Turned (lined nets b) k x a (lined nets′ b′)
 
--- three arrays hold the plan of a row
-pub record Told (row kinds ages counts : List ℕ) : Type 0 where
+-- three arrays that a plan can be told in
+pub record Cells (kinds ages counts : List ℕ) : Type 0 where
   pub kind-cells : length kinds ≡ 512
   pub age-cells : length ages ≡ 512
   pub count-cells : length counts ≡ 512
   pub small : Below 3 kinds
+
+-- three arrays hold the plan of a row
+pub record Told (row kinds ages counts : List ℕ) : Type 0 where
+  pub cells : Cells kinds ages counts
   pub tells : Tells (nodes row) [] (steps (take (length row) kinds) (take (length row) ages) (take (length row) counts))

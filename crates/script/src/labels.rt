@@ -3,28 +3,59 @@ ghost use mathlib.Core.Path.{_≡_};
 ghost use Prim.Native.Nat.{_≤_};
 ghost use lib.ListN.{length};
 ghost use Rattle.rules.specs.Answers.{firstLone};
-ghost use Rattle.script.specs.Tabled.{Firsts, Lasts, Tabled};
+ghost use Rattle.script.specs.Tabled.{Firsts, Lasts, Tabled, alone, Apart};
 
-// For each label its first and its last node, from 0. Entries of labels that do not occur say nothing.
-pub struct Tables {
-    pub first: [u16; 256],
-    pub last: [u16; 256],
-}
-
-// The tables of a row.
-pub fn scan(row: &[u8]) -> Tables
-    requires { ⌜ length (now row) ≤ 512 ⌝ }
-    ensures { λ r. ⌜ Tabled (now (row .entry)) (r .first) (r .last) ⌝ }
+// Fills the tables of a row: for each label its first and its last node, counted from 1. Entries of labels that do not occur stay as they were.
+pub fn scan(row: &[u8], first: &mut [u16; 256], last: &mut [u16; 256])
+    requires { ⌜ (length (now row) ≤ 512) × (length (now first) ≡ 256) × (length (now last) ≡ 256) ⌝ }
+    ensures { λ _. ⌜ Tabled (now (row .entry)) (now (first .exit)) (now (last .exit)) ⌝ }
 {
-    let first = firsts(row);
-    let last = lasts(row);
-    Tables { first, last }
+    firsts(row, first);
+    lasts(row, last);
 }
 
 // The first node, from 0, whose label stands at no other; the number of nodes where there is none.
 pub fn lone<'a>(row: &[u8], first: &'a [u16; 256], last: &'a [u16; 256]) -> usize
     requires { ⌜ Tabled (now row) (now first) (now last) ⌝ }
     ensures { λ r. ⌜ r ≡ firstLone (now (row .entry)) ⌝ }
+{
+    if lone_labels(first, last) == 0 {
+        return row.len();
+    }
+    first_lone(row, first, last)
+}
+
+// At how many labels the first and the last node are one. It goes through all labels without a branch, so that eight are taken at a time, and a row that has
+// no such label need not be gone through.
+fn lone_labels<'a>(first: &'a [u16; 256], last: &'a [u16; 256]) -> u16
+    ensures { λ r. ⌜ (r ≡ 0 → Apart (now (first .entry)) (now (last .entry)) 256) ⌝ }
+{
+    let mut count: u16 = 0;
+    let mut x = 0;
+    while x < 256 {
+        count += one_node(first[x], last[x]);
+        x += 1;
+    }
+    count
+}
+
+// 1 for a label that occurs and whose first and last node are one, else 0.
+fn one_node(first: u16, last: u16) -> u16
+    ensures { λ r. ⌜ (r ≡ alone first last) × (r ≤ 1) ⌝ }
+{
+    if first == 0 {
+        return 0;
+    }
+    if first == last {
+        return 1;
+    }
+    0
+}
+
+// The first lone node, gone through node by node.
+fn first_lone<'a>(row: &[u8], first: &'a [u16; 256], last: &'a [u16; 256]) -> usize
+    requires { ⌜ Tabled (now row) (now first) (now last) ⌝ }
+    ensures { λ i. ⌜ i ≡ firstLone (now (row .entry)) ⌝ }
 {
     let mut i = 0;
     while i < row.len() {
@@ -38,31 +69,27 @@ pub fn lone<'a>(row: &[u8], first: &'a [u16; 256], last: &'a [u16; 256]) -> usiz
 }
 
 // Each label's first node: the nodes write their numbers, the last one first.
-fn firsts(row: &[u8]) -> [u16; 256]
-    requires { ⌜ length (now row) ≤ 512 ⌝ }
-    ensures { λ r. ⌜ Firsts (now (row .entry)) 0 r ⌝ }
+fn firsts(row: &[u8], table: &mut [u16; 256])
+    requires { ⌜ (length (now row) ≤ 512) × (length (now table) ≡ 256) ⌝ }
+    ensures { λ _. ⌜ Firsts (now (row .entry)) 0 (now (table .exit)) ⌝ }
 {
-    let mut table = [0u16; 256];
     let mut i = row.len();
     while 0 < i {
-        i -= 1;
-        let x = row[i] as usize;
+        let x = row[i - 1] as usize;
         table[x] = i as u16;
+        i -= 1;
     }
-    table
 }
 
 // Each label's last node: the nodes write their numbers, the first one first.
-fn lasts(row: &[u8]) -> [u16; 256]
-    requires { ⌜ length (now row) ≤ 512 ⌝ }
-    ensures { λ r. ⌜ Lasts (now (row .entry)) (length (now (row .entry))) r ⌝ }
+fn lasts(row: &[u8], table: &mut [u16; 256])
+    requires { ⌜ (length (now row) ≤ 512) × (length (now table) ≡ 256) ⌝ }
+    ensures { λ _. ⌜ Lasts (now (row .entry)) (length (now (row .entry))) (now (table .exit)) ⌝ }
 {
-    let mut table = [0u16; 256];
     let mut i = 0;
     while i < row.len() {
         let x = row[i] as usize;
-        table[x] = i as u16;
         i += 1;
+        table[x] = i as u16;
     }
-    table
 }

@@ -1,113 +1,130 @@
 // The plan of a row: for each node its kind field, the age of its net, and how many nets are open before it.
 use street::CAPACITY;
-use street::Order;
 ghost use mathlib.Core.Bool.{not};
-ghost use Prim.Native.Nat.{_≤_};
+ghost use Prim.Native.Nat.{suc, _≤_, _<_};
 ghost use lib.Dec.{eqb};
 ghost use lib.ListN.{length};
 ghost use Rattle.rules.specs.Row.{kindOf};
 ghost use Rattle.rules.specs.Sheet.{code};
-ghost use Rattle.street.specs.Order.{Sound};
 ghost use Rattle.script.specs.Tabled.{Tabled};
-ghost use Rattle.script.specs.Told.{Turning, Turns, Told};
+ghost use Rattle.script.specs.Told.{lined, Lined, Closed, Turning, Turns, Cells, Told};
 
-// A plan, with a cell for each node that a row can have. Cells past the row's nodes are free, and so are those past a node that begins a
-// seventh open net: no order gets past it.
-pub struct Script {
-    pub kinds: [u8; 512],
-    pub ages: [u8; 512],
-    pub counts: [u8; 512],
-}
-
-// The plan of a row, by its label tables.
-pub fn tell<'a>(row: &[u8], first: &'a [u16; 256], last: &'a [u16; 256]) -> Script
+// Fills the plan of a row, by its label tables: a cell for each node that a row can have. Cells past the row's nodes are free, and so are those past a node that
+// begins a seventh open net: no order gets past it.
+pub fn tell<'a>(
+    row: &[u8],
+    first: &'a [u16; 256],
+    last: &'a [u16; 256],
+    kinds: &mut [u8; 512],
+    ages: &mut [u8; 512],
+    counts: &mut [u8; 512],
+)
     requires { ⌜ length (now row) ≤ 512 ⌝ }
     requires { ⌜ Tabled (now row) (now first) (now last) ⌝ }
-    ensures { λ r. ⌜ Told (now (row .entry)) (r .kinds) (r .ages) (r .counts) ⌝ }
+    requires { ⌜ Cells (now kinds) (now ages) (now counts) ⌝ }
+    ensures { λ _. ⌜ Told (now (row .entry)) (now (kinds .exit)) (now (ages .exit)) (now (counts .exit)) ⌝ }
 {
-    let mut kinds = [0u8; 512];
-    let mut ages = [0u8; 512];
-    let mut counts = [0u8; 512];
-    let mut held = Order::new();
+    let mut nets = [0u8; CAPACITY];
+    let mut elders = [0u8; 256];
+    let mut b: usize = 0;
     let mut i = 0;
     while i < row.len() {
         let x = row[i];
         let label = x as usize;
-        counts[i] = held.count as u8;
-        let turn = turn_at(held, i, first[label], last[label], x);
+        counts[i] = b as u8;
+        let turn = turn_at(&mut nets, &mut elders, b, i, first[label], last[label], x);
         kinds[i] = turn.kind;
         if turn.full {
-            return Script {
-                kinds,
-                ages,
-                counts,
-            };
+            return;
         }
         ages[i] = turn.age;
-        held = turn.held;
+        b = turn.count;
         i += 1;
-    }
-    Script {
-        kinds,
-        ages,
-        counts,
     }
 }
 
-// What a node does: its kind field, whether it begins a net where no more can be open, and where not the age of its net and the open nets after it,
-// youngest first.
+// What a node does: its kind field, whether it begins a net where no more can be open, and where not the age of its net and how many nets are open after it.
 struct Turn {
     kind: u8,
     full: bool,
     age: u8,
-    held: Order,
+    count: usize,
 }
 
-// Node i, of the net with label x, whose first and last node are these. A branch for each kind takes fewer instructions than a kind that is computed first.
-fn turn_at(held: Order, i: usize, first: u16, last: u16, x: u8) -> Turn
-    requires { ⌜ Turning held (code (kindOf (eqb first i) (not (eqb last i)))) x ⌝ }
-    ensures { λ r. ⌜ Turns held (code (kindOf (eqb first i) (not (eqb last i)))) x (r .kind) (r .full) (r .age) (r .held) ⌝ }
+// Node i, from 0, of the net with label x, whose first and last node, from 1, are these. The labels of the b open nets stand in `nets`, oldest first, and
+// `elders` has for each how many are older, so that a net is found by its label at once. A branch for each kind takes fewer instructions than a kind that is
+// computed first.
+fn turn_at(
+    nets: &mut [u8; CAPACITY],
+    elders: &mut [u8; 256],
+    b: usize,
+    i: usize,
+    first: u16,
+    last: u16,
+    x: u8,
+) -> Turn
+    requires { ⌜ Lined (now nets) (now elders) b × (i < 512) ⌝ }
+    requires { ⌜ Turning (lined (now nets) b) (code (kindOf (eqb first (suc i)) (not (eqb last (suc i))))) x ⌝ }
+    ensures { λ r. ⌜ Turns (now (nets .entry)) b (code (kindOf (eqb first (suc i)) (not (eqb last (suc i))))) x (r .kind) (r .full) (r .age) (now (nets .exit)) (now (elders .exit)) (r .count) ⌝ }
 {
-    if first as usize == i {
-        return begin(held, x);
+    let node = i + 1;
+    if first as usize == node {
+        return begin(nets, elders, b, x);
     }
-    let age = held.find(x);
-    if last as usize == i {
-        let next = held.remove(age);
+    let e = elders[x as usize] as usize;
+    let age = (b - 1 - e) as u8;
+    if last as usize == node {
+        let left = b - 1;
+        close(nets, elders, e, left);
         return Turn {
             kind: 2,
             full: false,
-            age: age as u8,
-            held: next,
+            age,
+            count: left,
         };
     }
     Turn {
         kind: 1,
         full: false,
-        age: age as u8,
-        held,
+        age,
+        count: b,
     }
 }
 
 // A node that begins the net with label x.
-fn begin(held: Order, x: u8) -> Turn
-    requires { ⌜ Sound held ⌝ }
-    ensures { λ r. ⌜ Turns held 0 x (r .kind) (r .full) (r .age) (r .held) ⌝ }
+fn begin(nets: &mut [u8; CAPACITY], elders: &mut [u8; 256], b: usize, x: u8) -> Turn
+    requires { ⌜ Lined (now nets) (now elders) b ⌝ }
+    requires { ⌜ Turning (lined (now nets) b) 0 x ⌝ }
+    ensures { λ r. ⌜ Turns (now (nets .entry)) b 0 x (r .kind) (r .full) (r .age) (now (nets .exit)) (now (elders .exit)) (r .count) ⌝ }
 {
-    let count = held.count;
-    if count == CAPACITY {
+    if b == CAPACITY {
         return Turn {
             kind: 0,
             full: true,
             age: 0,
-            held,
+            count: b,
         };
     }
-    let next = held.insert(0, x);
+    nets[b] = x;
+    elders[x as usize] = b as u8;
     Turn {
         kind: 0,
         full: false,
         age: 0,
-        held: next,
+        count: b + 1,
+    }
+}
+
+// Takes the net with e elders out, which leaves b: the younger ones move up.
+fn close(nets: &mut [u8; CAPACITY], elders: &mut [u8; 256], e: usize, b: usize)
+    requires { ⌜ Lined (now nets) (now elders) (suc b) × (e ≤ b) ⌝ }
+    ensures { λ _. ⌜ Closed (now (nets .entry)) e b (now (nets .exit)) (now (elders .exit)) ⌝ }
+{
+    let mut k = e;
+    while k < b {
+        let y = nets[k + 1];
+        nets[k] = y;
+        elders[y as usize] = k as u8;
+        k += 1;
     }
 }

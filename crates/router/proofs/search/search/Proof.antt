@@ -12,7 +12,7 @@ use Rattle.router.proofs.search.search.Tie as tie
 
 search-by-requires : tie.Need-search-by-requires
 unfolding rests backs stands legals spots restAt backAt standAt legalAt spotAt every image gather atOf lessOf under spared fact pick bit fits limits met
-search-by-requires c κs = let p = c .before .before .before .before .before .before .before .before .pre in (p .0, (p .1, tables-right _ refl tt tt tt tt tt))
+search-by-requires c κs = let p = c .before .before .before .before .before .before .before .before .before .pre in (p .0, (p .1 .0, (tables-right _ refl tt tt tt tt tt, p .1 .1)))
 
 same-length : tie.Need-same-length
 same-length c = search needs

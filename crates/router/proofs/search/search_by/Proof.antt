@@ -1,5 +1,5 @@
 -- `router::search::search_by` meets its contract: each pass hands on what the next one asks. Assumes nothing.
-use mathlib.Core.Path.{refl, _∙_}
+use mathlib.Core.Path.{_∙_}
 use native.Mathlib.Omega.{arith}
 use borrow.Author.Needs.{needs}
 use Rattle.orders.proofs.Ways.{steps-length}
@@ -9,7 +9,7 @@ use Rattle.router.proofs.search.search_by.Statement.{statement}
 use Rattle.router.proofs.search.search_by.Tie as tie
 
 forward-requires : tie.Need-forward-requires
-forward-requires c κs = let p = c .before .before .before .before .before .before .before .pre in (p .0, p .1 .1)
+forward-requires c κs = search needs
 
 wipe-requires : tie.Need-wipe-requires
 wipe-requires c κs = search needs
@@ -19,7 +19,8 @@ same-length c = search needs
 
 returns : tie.Need-returns
 returns c =
-    let g = c .before .before .before .before .before .before .before .before .before .before .before .before .before .before .before .args in
+    let s = c .before .before .before .before .before .before .before .before .before .before .before .before .before .before .before in
+    let g = s .args in
     let f = c .before .before .before .before .before .before .before .forward in
     let e = c .before .before .wipe .ensures in
     record {
@@ -28,7 +29,7 @@ returns c =
       within = f .ensures .within;
       passes = f .ensures .passes;
       stuck = f .ensures .stuck;
-      cells = refl;
+      cells = s .pre .1 .1 .1;
       first = λ z. absurd (omega (arith, steps-length (g .kinds .now) (g .ages .now) (g .counts .now), c .before .before .before .before .if1 .taken));
     }
 
@@ -42,17 +43,17 @@ prune-requires c κs =
       given-same (g .kinds .now) (g .ages .now) (g .counts .now) (g .ku) (g .kl) (g .work .now) (f .last .0) (f .ensures .long) (s .pre .0),
       (
         forward-filled (g .kinds .now) (g .ages .now) (g .counts .now) (g .ku) (g .kl) (g .work .now) (f .last .0) all,
-        (forward-passes (g .kinds .now) (g .ages .now) (g .counts .now) (g .ku) (g .kl) (g .work .now) (f .last .0) all, s .pre .1 .1),
+        (forward-passes (g .kinds .now) (g .ages .now) (g .counts .now) (g .ku) (g .kl) (g .work .now) (f .last .0) all, s .pre .1 .1 .0),
       ),
     )
 
 walk-requires : tie.Need-walk-requires
 walk-requires c κs =
-    let s = c .before .before .before .before .before .before .before .before .before .before .before .before .before .before .before .before in
+    let s = c .before .before .before .before .before .before .before .before .before .before .before .before .before .before .before .before .before in
     let g = s .args in
-    let f = c .before .before .before .before .before .before .before .before .forward in
-    let p = c .before .before .before .prune in
-    let h = c .before .before .before .before .before .if1 .left in
+    let f = c .before .before .before .before .before .before .before .before .before .forward in
+    let p = c .before .before .before .before .prune in
+    let h = c .before .before .before .before .before .before .if1 .left in
     let all = all-passed (g .kinds .now) (g .ages .now) (g .counts .now) (g .ku) (g .kl) (g .work .now) (f .last .0) (f .result) (f .ensures) (omega arith) in
     let given-f = given-same (g .kinds .now) (g .ages .now) (g .counts .now) (g .ku) (g .kl) (g .work .now) (f .last .0) (f .ensures .long) (s .pre .0) in
     let passes = forward-passes (g .kinds .now) (g .ages .now) (g .counts .now) (g .ku) (g .kl) (g .work .now) (f .last .0) all in (
@@ -82,8 +83,8 @@ returns-2 : tie.Need-returns-2
 returns-2 c =
     let f = c .before .before .before .before .before .before .before .before .before .before .before .before .before .before .forward in
     let p = c .before .before .before .before .before .before .before .before .before .prune in
-    let k = c .before .before .before .before .before .walk in
-    let e = c .before .before .before .wipe2 .ensures in
+    let k = c .before .before .before .before .walk in
+    let e = c .before .before .wipe2 .ensures in
     record {
       long = e .0 ∙ p .ensures .long ∙ f .ensures .long;
       clear = e .1;

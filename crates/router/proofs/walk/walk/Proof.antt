@@ -1,6 +1,5 @@
 -- `router::walk::walk` meets its contract. The loop's invariant is `Walks`: the places so far begin the first way, and the order is that of the rank. Assumes
 -- nothing.
-use mathlib.Core.Path.{refl}
 use Prim.Native.Nat.{_-_}
 use native.Mathlib.Omega.{arith}
 use lib.ListN.{length}
@@ -23,7 +22,7 @@ loop-holds c =
     let a = g .args in
     let p = g .pre in
     walks-none (a .row .now) (a .kinds .now) (a .ages .now) (a .counts .now) (a .ku) (a .kl) (a .work .now) (p .0) (p .1 .0) (p .1 .1 .1 .0)
-    (p .1 .1 .1 .1 .0) (p .1 .1 .0) (c .new .result) (c .new .ensures) _ refl
+    (p .1 .1 .1 .1 .0) (p .1 .1 .0) (c .new .result) (c .new .ensures) (a .ps .now) (p .1 .1 .1 .1 .1 .1)
 
 stop-at-requires : tie.Need-stop-at-requires Inv-loop μ-loop
 stop-at-requires c κs =
@@ -42,11 +41,11 @@ stand-requires c κs =
     rw (c .before .stop-at .ensures) (
       walks-standing (a .row .now) (a .kinds .now) (a .ages .now) (a .counts .now) (a .ku) (a .kl) (a .work .now) (p .0) (p .1 .0) (p .1 .1 .1 .0)
           (p .1 .1 .1 .1 .0) (l .ps) (l .held) (l .i) (l .r) (l .inv) (c .before .before .loop-test .taken),
-      p .1 .1 .1 .1 .1,
+      p .1 .1 .1 .1 .1 .0,
     )
 
-array-write-ps : tie.Need-array-write-ps Inv-loop μ-loop
-array-write-ps c =
+element-write-ps : tie.Need-element-write-ps Inv-loop μ-loop
+element-write-ps c =
     let p = c .before .before .before .before .before .before .before .before .before .before .before .before .pre in
     omega (arith, p .1 .1 .1 .0 .few, c .before .before .before .loop-test .taken)
 
@@ -90,7 +89,7 @@ walk-spec =
     stop-at-requires
     shared-slice-read-stand
     stand-requires
-    array-write-ps
+    element-write-ps
     add-i
     loop-less
     loop-again

@@ -1,8 +1,8 @@
 -- `script::labels::firsts` meets its contract. The loop's invariant: the table holds the first nodes among those passed. Assumes nothing.
 use mathlib.Core.Path.{_≡_}
-use Prim.Native.Nat.{ℕ, suc, _-_, _≤_}
+use Prim.Native.Nat.{suc, _-_, _≤_}
 use native.Mathlib.Omega.{arith}
-use lib.ListN.{length, replicate, length-replicate}
+use lib.ListN.{length}
 use Rattle.script.specs.Tabled.{Firsts}
 use Rattle.script.proofs.Noting.{firsts-none, firsts-more}
 use Rattle.script.proofs.labels.firsts.Statement.{statement}
@@ -15,11 +15,10 @@ abbrev μ-loop : tie.MeasureT-loop
 μ-loop row table₀ i₀ table i = i
 
 loop-holds : tie.Need-loop-holds Inv-loop μ-loop
-loop-holds c =
-    (omega arith, firsts-none (c .args .row .now) (replicate 256 0) (length-replicate {A = ℕ} 256 0))
+loop-holds c = (omega arith, firsts-none (c .args .row .now) (c .args .table .now) (c .pre .1))
 
-sub-i : tie.Need-sub-i Inv-loop μ-loop
-sub-i c = omega arith
+sub-x : tie.Need-sub-x Inv-loop μ-loop
+sub-x c = omega arith
 
 shared-slice-read-x : tie.Need-shared-slice-read-x Inv-loop μ-loop
 shared-slice-read-x c = omega arith
@@ -33,8 +32,11 @@ cast-table c = omega arith
 mul-table : tie.Need-mul-table Inv-loop μ-loop
 mul-table c = omega (arith, c .shared-slice-known .given (c .before .before .loop .i - 1))
 
-array-write-table : tie.Need-array-write-table Inv-loop μ-loop
-array-write-table c = omega (arith, c .shared-slice-known .given (c .before .before .loop .i - 1))
+element-write-table : tie.Need-element-write-table Inv-loop μ-loop
+element-write-table c = omega (arith, c .shared-slice-known .given (c .before .before .loop .i - 1))
+
+sub-i : tie.Need-sub-i Inv-loop μ-loop
+sub-i c = omega arith
 
 loop-less : tie.Need-loop-less Inv-loop μ-loop
 loop-less c = omega arith
@@ -42,8 +44,9 @@ loop-less c = omega arith
 loop-again : tie.Need-loop-again Inv-loop μ-loop
 loop-again c =
     let l = c .before .before .loop in
+    let row = c .before .before .before .args .row .now in
     let e : suc (l .i - 1) ≡ l .i = omega arith in
-    (omega arith, firsts-more (c .before .before .before .args .row .now) (l .table) (l .i - 1) (omega (arith, c .shared-slice-known .given (l .i - 1))) (rw e (l .inv .1)))
+    (omega arith, rw e at (firsts-more row (l .table) (l .i - 1) (omega (arith, c .shared-slice-known .given (l .i - 1))) (rw e (l .inv .1))))
 
 returns : tie.Need-returns Inv-loop μ-loop
 returns c =
@@ -57,12 +60,13 @@ firsts-spec =
     Inv-loop
     μ-loop
     loop-holds
-    sub-i
+    sub-x
     shared-slice-read-x
     cast-x
     cast-table
     mul-table
-    array-write-table
+    element-write-table
+    sub-i
     loop-less
     loop-again
     returns)

@@ -1,9 +1,9 @@
 -- `script::labels::lasts` meets its contract. The loop's invariant: the table holds the last nodes among those passed. Assumes nothing.
 use mathlib.Core.Path.{_≡_}
-use Prim.Native.Nat.{ℕ, _-_, _≤_}
+use Prim.Native.Nat.{_-_, _≤_}
 use native.Mathlib.Numerals.{add-one}
 use native.Mathlib.Omega.{arith}
-use lib.ListN.{length, replicate, length-replicate}
+use lib.ListN.{length}
 use Rattle.script.specs.Tabled.{Lasts}
 use Rattle.script.proofs.Noting.{lasts-none, lasts-more}
 use Rattle.script.proofs.labels.lasts.Statement.{statement}
@@ -16,8 +16,7 @@ abbrev μ-loop : tie.MeasureT-loop
 μ-loop row table₀ i₀ table i = length row - i
 
 loop-holds : tie.Need-loop-holds Inv-loop μ-loop
-loop-holds c =
-    (omega arith, lasts-none (c .args .row .now) (replicate 256 0) (length-replicate {A = ℕ} 256 0))
+loop-holds c = (omega arith, lasts-none (c .args .row .now) (c .args .table .now) (c .pre .1))
 
 shared-slice-read-x : tie.Need-shared-slice-read-x Inv-loop μ-loop
 shared-slice-read-x c = omega arith
@@ -25,17 +24,17 @@ shared-slice-read-x c = omega arith
 cast-x : tie.Need-cast-x Inv-loop μ-loop
 cast-x c = omega (arith, c .shared-slice-known .given (c .before .before .loop .i))
 
+add-i : tie.Need-add-i Inv-loop μ-loop
+add-i c = omega arith
+
 cast-table : tie.Need-cast-table Inv-loop μ-loop
 cast-table c = omega arith
 
 mul-table : tie.Need-mul-table Inv-loop μ-loop
 mul-table c = omega (arith, c .shared-slice-known .given (c .before .before .loop .i))
 
-array-write-table : tie.Need-array-write-table Inv-loop μ-loop
-array-write-table c = omega (arith, c .shared-slice-known .given (c .before .before .loop .i))
-
-add-i : tie.Need-add-i Inv-loop μ-loop
-add-i c = omega arith
+element-write-table : tie.Need-element-write-table Inv-loop μ-loop
+element-write-table c = omega (arith, c .shared-slice-known .given (c .before .before .loop .i))
 
 loop-less : tie.Need-loop-less Inv-loop μ-loop
 loop-less c = omega arith
@@ -60,10 +59,10 @@ lasts-spec =
     loop-holds
     shared-slice-read-x
     cast-x
+    add-i
     cast-table
     mul-table
-    array-write-table
-    add-i
+    element-write-table
     loop-less
     loop-again
     returns)

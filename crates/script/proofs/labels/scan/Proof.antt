@@ -12,12 +12,8 @@ lasts-requires c κs = search needs
 
 returns : tie.Need-returns
 returns c =
-    let f = c .before .firsts in
-    record {
-      firsts = f .ensures .cells;
-      begins = firsts-home (c .before .before .before .args .row .now) (f .result) (f .ensures);
-      lasts = c .lasts .ensures;
-    }
+    let f = c .before .before .firsts .ensures in
+    record { firsts = f .cells; begins = firsts-home (c .before .before .before .before .before .args .row .now) _ f; lasts = c .lasts .ensures }
 
 pub scan-spec : {M : Type 1} → statement M
 scan-spec = tie.close (tie.spec firsts-requires lasts-requires returns)

@@ -1,63 +1,101 @@
--- `script::plan::turn_at` meets its contract: its tests are those of the kind, and the order's functions find and cut as the plan says. Assumes nothing.
+-- `script::plan::turn_at` meets its contract: its tests are those of the kind, and the cells and the table tell where a net stands. Assumes nothing.
+use mathlib.Core.Path.{_≡_, refl}
+use Prim.Native.Nat.{suc, _-_}
 use native.Mathlib.Omega.{arith}
 use borrow.Author.Needs.{needs}
-use Rattle.script.proofs.ByKind.{begins, ends, meets, not-begun, turns-met, turns-ended}
+use Rattle.script.proofs.ByKind.{begins, ends, meets, touched, turns-met, turns-ended}
 use Rattle.script.proofs.plan.turn_at.Statement.{statement}
 use Rattle.script.proofs.plan.turn_at.Tie as tie
 
+add-node : tie.Need-add-node
+add-node c = omega arith
+
 begin-requires : tie.Need-begin-requires
-begin-requires c κs = c .before .pre .sound
+begin-requires c κs =
+    let s = c .before .before .before in
+    let g = s .args in
+    (s .pre .0 .0, rw (begins (g .first) (g .last) (suc (g .i)) (omega arith)) at (s .pre .1))
 
 returns : tie.Need-returns
 returns c =
-    let g = c .before .before .args in
-    rw (begins (g .first) (g .last) (g .i) (c .before .if1 .taken)) (c .begin .ensures)
+    let g = c .before .before .before .before .args in
+    rw (begins (g .first) (g .last) (suc (g .i)) (omega (arith, c .before .before .before .if1 .taken))) (c .begin .ensures)
 
-find-requires : tie.Need-find-requires
-find-requires c κs =
-    let s = c .before in
+element-copy-out-e : tie.Need-element-copy-out-e
+element-copy-out-e c = search needs
+
+cast-e : tie.Need-cast-e
+cast-e c =
+    let s = c .before .before in
     let g = s .args in
-    (s .pre .sound, s .pre .there (not-begun (g .first) (g .last) (g .i) (c .if1 .left)))
+    let t = touched (g .nets .now) (g .elders .now) (g .b) (g .first) (g .last) (suc (g .i)) (g .x) (s .pre .0 .0) (s .pre .1) (λ e. c .before .if1 .left (omega arith)) in
+    omega (arith, t .0, s .pre .0 .0 .few)
 
-remove-requires : tie.Need-remove-requires
-remove-requires c κs =
+sub-age : tie.Need-sub-age
+sub-age c =
+    let s = c .before .before in
+    let g = s .args in
+    let t = touched (g .nets .now) (g .elders .now) (g .b) (g .first) (g .last) (suc (g .i)) (g .x) (s .pre .0 .0) (s .pre .1) (λ e. c .before .if1 .left (omega arith)) in
+    omega (arith, t .0)
+
+sub-age-2 : tie.Need-sub-age-2
+sub-age-2 c =
+    let s = c .before .before in
+    let g = s .args in
+    let t = touched (g .nets .now) (g .elders .now) (g .b) (g .first) (g .last) (suc (g .i)) (g .x) (s .pre .0 .0) (s .pre .1) (λ e. c .before .if1 .left (omega arith)) in
+    omega (arith, t .0)
+
+cast-age : tie.Need-cast-age
+cast-age c =
+    let s = c .before .before in
+    let g = s .args in
+    let t = touched (g .nets .now) (g .elders .now) (g .b) (g .first) (g .last) (suc (g .i)) (g .x) (s .pre .0 .0) (s .pre .1) (λ e. c .before .if1 .left (omega arith)) in
+    omega (arith, t .0, s .pre .0 .0 .few)
+
+sub-left : tie.Need-sub-left
+sub-left c =
     let s = c .before .before .before in
-    let g = s .args in (
-      s .pre .sound,
-      omega (arith, c .before .find .ensures .place, s .pre .there (not-begun (g .first) (g .last) (g .i) (c .before .before .if1 .left))),
-    )
+    let g = s .args in
+    let t = touched (g .nets .now) (g .elders .now) (g .b) (g .first) (g .last) (suc (g .i)) (g .x) (s .pre .0 .0) (s .pre .1) (λ e. c .before .before .if1 .left (omega arith)) in
+    omega (arith, t .0)
 
-cast-t10 : tie.Need-cast-t10
-cast-t10 c = search needs
+close-requires : tie.Need-close-requires
+close-requires c κs =
+    let s = c .before .before .before .before .before in
+    let g = s .args in
+    let t = touched (g .nets .now) (g .elders .now) (g .b) (g .first) (g .last) (suc (g .i)) (g .x) (s .pre .0 .0) (s .pre .1) (λ e. c .before .before .before .before .if1 .left (omega arith)) in
+    let n : suc (g .b - 1) ≡ g .b = omega (arith, t .0) in
+    (rw n (s .pre .0 .0), omega (arith, t .0))
 
 returns-2 : tie.Need-returns-2
 returns-2 c =
-    let s = c .before .before .before .before in
+    let s = c .before .before .before .before .before .before in
     let g = s .args in
-    let f = c .before .before .find in
-    rw (ends (g .first) (g .last) (g .i) (c .before .before .before .if1 .left) (c .before .if2 .taken))
-    (turns-ended (g .held) (g .x) (f .result) (f .ensures .place) (c .remove .result) (c .remove .ensures .sound) (c .remove .ensures .list))
-
-cast-t11 : tie.Need-cast-t11
-cast-t11 c = search needs
+    let t = touched (g .nets .now) (g .elders .now) (g .b) (g .first) (g .last) (suc (g .i)) (g .x) (s .pre .0 .0) (s .pre .1) (λ e. c .before .before .before .before .before .if1 .left (omega arith)) in
+    rw (ends (g .first) (g .last) (suc (g .i)) (λ e. c .before .before .before .before .before .if1 .left (omega arith)) (omega (arith, c .before .before .before .if2 .taken)))
+    (turns-ended (g .nets .now) (g .b) (g .x) _ (t .1) _ (g .b - 1) (omega (arith, t .0)) refl _ _ (c .close .ensures))
 
 returns-3 : tie.Need-returns-3
 returns-3 c =
     let s = c .before .before .before in
     let g = s .args in
-    let f = c .before .find in
-    rw (meets (g .first) (g .last) (g .i) (c .before .before .if1 .left) (c .if2 .left))
-    (turns-met (g .held) (g .x) (f .result) (f .ensures .place) (s .pre .sound))
+    let t = touched (g .nets .now) (g .elders .now) (g .b) (g .first) (g .last) (suc (g .i)) (g .x) (s .pre .0 .0) (s .pre .1) (λ e. c .before .before .if1 .left (omega arith)) in
+    rw (meets (g .first) (g .last) (suc (g .i)) (λ e. c .before .before .if1 .left (omega arith)) (λ e. c .if2 .left (omega arith)))
+    (turns-met (g .nets .now) (g .b) (g .x) _ (t .1) (g .elders .now) (s .pre .0 .0))
 
 pub turn-at-spec : {M : Type 1} → statement M
 turn-at-spec =
     tie.close
     (tie.spec
+    add-node
     begin-requires
     returns
-    find-requires
-    remove-requires
-    cast-t10
+    element-copy-out-e
+    cast-e
+    sub-age
+    sub-age-2
+    cast-age
+    sub-left
+    close-requires
     returns-2
-    cast-t11
     returns-3)
