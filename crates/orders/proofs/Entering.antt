@@ -8,6 +8,8 @@ use native.Mathlib.Nat.{suc-mul}
 use native.Mathlib.Numerals.{add-one}
 use native.Mathlib.Omega.{arith}
 use Rattle.rules.specs.Street.{fits}
+use Rattle.rules.specs.Sheet.{kindIn}
+use Rattle.rules.specs.Judgement.{left}
 use Rattle.rules.proofs.Fits.{Fits}
 use Rattle.steps.specs.declared.rank.Stop.{Stop}
 use Rattle.steps.specs.Ranks.{capacity, fact, RankOf}
@@ -19,6 +21,7 @@ use Rattle.steps.proofs.Ranks.{fact-most, fact-of-four, fact-of-five, rank-lt, 
 use Rattle.steps.proofs.Slots.{held-below}
 use Rattle.steps.proofs.Bits.{not-both, marked-held, last-or}
 use Rattle.steps.proofs.Hops.{fits-fits, stop-lands}
+use Rattle.steps.proofs.RanksLed.{leads-rank}
 use Rattle.steps.proofs.OpeningSteps.{begun, begun-only}
 use Rattle.steps.proofs.OpeningBack.{low-mark, fifth-mark, sixth-two}
 
@@ -42,20 +45,10 @@ module _ (t : Stop) (s : List ℕ) (g r : ℕ) (sound : Sound t) (kind : t .kind
       omega (arith, fitting (o .leads .at) f .sum, sound .upper, sound .lower)
 
   pub enters-ranks : (x : ℕ) → marked s g x ≡ true → RankOf (suc b) x
+  unfolding left kindIn
   enters-ranks x m =
       let h = led x m in
-      let (f, d) = begun-only t kind (h .rank) (h .leads .at) x (h .leads .lands) in
-      let w = fitting (h .leads .at) f in
-      record {
-        below = rw (← d) (rank-lt (h .leads .at) b (h .rank) (omega (arith, w .high)) (h .below));
-        middle = λ c. middle (h .leads .at) (h .rank) x (omega arith) d w;
-      }
-    where
-      middle : (p n x : ℕ) → b ≡ 5 → p * fact b + n ≡ x → Fits (t .ku) (t .kl) (suc p) (suc b) → 240 ≤ x
-      middle p n x e d w =
-          let u : fact b ≡ 120 = ap fact e ∙ fact-of-five in
-          let y : p * 120 + n ≡ x = rw u at d in
-          omega (arith, w .lower, sound .lower)
+      rw kind at (leads-rank t sound (h .rank) x (h .of) (h .leads))
 
   -- a place that makes a marked rank is legal
   legal : (p x : ℕ) → x ≡ p * fact b + r → marked s g x ≡ true → hopAt t r p ≡ some x
@@ -63,7 +56,7 @@ module _ (t : Stop) (s : List ℕ) (g r : ℕ) (sound : Sound t) (kind : t .kind
       let h = led x m in
       let (f, d) = begun-only t kind (h .rank) (h .leads .at) x (h .leads .lands) in
       let q : h .leads .at ≡ p =
-      sym (rank-digit (h .leads .at) b (h .rank) (h .below)) ∙ ap (λ (n : ℕ). n / fact b) (d ∙ e) ∙ rank-digit p b r low in
+      sym (rank-digit (h .leads .at) b (h .rank) (h .of .below)) ∙ ap (λ (n : ℕ). n / fact b) (d ∙ e) ∙ rank-digit p b r low in
       let w : fits (t .ku) (t .kl) (suc p) (suc b) ≡ true = rw q at f in
       begun t kind r p w ∙ ap some (sym e)
 

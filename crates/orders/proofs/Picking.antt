@@ -94,7 +94,7 @@ module _ (ks xs cs : List ℕ) (ku kl : ℕ) (s : List ℕ) (given : Given ks xs
     marks-led x m =
         let n : x < ranks = omega (arith, held-below x (marked-held s i x m)) in
         let (q, v, h) = way-back ks xs cs ku kl i l x (kept .ways i x inside n m) in
-        record { rank = q; below = stop-ready ks xs cs ku kl i l s q given v .1 .below; leads = h }
+        record { rank = q; of = stop-ready ks xs cs ku kl i l s q given v .1; leads = h }
 
     pub picks-step : (p x : ℕ) → length ks ≤ 512 → Least (stopOf ks xs cs ku kl i) s i r p x →
         Picks ks xs cs ku kl (set ps i p) (i + 1) x

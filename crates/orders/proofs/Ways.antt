@@ -15,7 +15,8 @@ use Rattle.steps.specs.Ranks.{hopOf, hops, openAfter, RankOf, Way, Ahead}
 use Rattle.steps.specs.Sets.{ranks}
 use Rattle.orders.specs.Passes.{Passable}
 use Rattle.steps.proofs.Ranks.{fact-pos, fact-six}
-use Rattle.steps.proofs.Hops.{hop-made, hop-middle}
+use Rattle.steps.proofs.Hops.{hop-made}
+use Rattle.steps.proofs.RanksLed.{leads-rank}
 
 -- one hop: from rank r through the step s to rank x
 pub record Hopped (ku kl : ℕ) (s : Step) (r x : ℕ) : Type 0 where
@@ -140,10 +141,8 @@ module _ (ku kl : ℕ) (hu : ku ≤ 3) (hl : kl ≤ 3) where
   rank-on : (r x p k a b : ℕ) → b ≤ 6 → (0 < k → a < b) → RankOf b r → hopOf ku kl (step k a b) r p ≡ some x →
       RankOf (left (kindIn k) b) x
   rank-on r x p k a b f t l h =
-      record {
-        below = hop-made ku kl k a b r p x h .lands t (l .below);
-        middle = hop-middle ku kl k a b r p x hu hl f (l .middle) h;
-      }
+      leads-rank (record { kind = k; age = a; count = b; ku = ku; kl = kl }) (record { few = f; touched = t; upper = hu; lower = hl }) r x l
+      (record { at = p; lands = h })
 
   -- past one step
   past : {b k a c : ℕ} {ss : List Step} (r x p : ℕ) → Steps b (step k a c ∷ ss) → RankOf b r → hopOf ku kl (step k a c) r p ≡ some x →
@@ -174,7 +173,7 @@ module _ (ku kl : ℕ) (hu : ku ≤ 3) (hl : kl ≤ 3) where
   -- a way's rank is one of the nets that are then open
   pub way-comes : (i : ℕ) (ss : List Step) (x : ℕ) → Steps 0 ss → Way ku kl (take i ss) x →
       Comes (openAfter 0 (take i ss)) (drop i ss) x
-  way-comes i ss x t w = steps-rest i 0 ss 0 x (w .ps) t (record { below = fact-pos 0; middle = λ e. absurd (omega arith) }) (w .runs)
+  way-comes i ss x t w = steps-rest i 0 ss 0 x (w .ps) t (record { below = fact-pos 0; inner = λ e. absurd (omega arith); middle = λ e. absurd (omega arith) }) (w .runs)
 
   steps-few : {c : ℕ} {ss : List Step} → Steps c ss → c ≤ 6
   steps-few (nil h) = h

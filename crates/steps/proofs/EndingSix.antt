@@ -21,10 +21,10 @@ use Rattle.steps.specs.Masks.{Sources}
 use Rattle.steps.specs.Leading.{Leads, Reached, Onward}
 use Rattle.steps.specs.Four.{wordBefore, Gone, comes, nth, within, SixLeft, SixBack}
 use Rattle.steps.proofs.Ranks.{at-youngest, less-youngest, at-older, less-older, less-lt, under-above, under-below, spared-above, spared-below}
-use Rattle.steps.proofs.Slots.{held-few, held-middle, held-below, slot-few, slot-middle}
+use Rattle.steps.proofs.Slots.{held-few, held-middle, slot-few, slot-middle}
 use Rattle.steps.proofs.Words.{bit-or, bit-zero, bit-power, bit-power-other}
 use Rattle.steps.proofs.Hops.{fits-fits, fitting, hop-ends}
-use Rattle.steps.proofs.Bits.{not-both, marked-bit, source-held}
+use Rattle.steps.proofs.Bits.{not-both, marked-bit}
 use Rattle.steps.proofs.FourSets.{either, or-first, or-second, and-both, and-true}
 use Rattle.steps.proofs.EndingSets.{word-source, ends-made}
 
@@ -130,7 +130,7 @@ module _ (t : Stop) (ok : Sound t) (ends : t .kind ≡ 2) (six : t .count ≡ 6)
         let d = at-first q x hx in
         six-leads (120 * q + x) x h (rw e (omega arith)) (rw e (omega arith)) (rw e (less-first q x hx))
 
-    leads-first : t .age ≡ 0 → (y : ℕ) → Leads t (120 * q + x) y → x ≡ y
+    pub leads-first : t .age ≡ 0 → (y : ℕ) → Leads t (120 * q + x) y → x ≡ y
     leads-first e y m =
         let (a, b, h, d) = leads-six (120 * q + x) y m in
         sym (less-first q x hx) ∙ rw e at d
@@ -143,7 +143,7 @@ module _ (t : Stop) (ok : Sound t) (ends : t .kind ≡ 2) (six : t .count ≡ 6)
         let v = third-under q h₂ h₄ in
         six-leads (120 * q + x) (48 + lessOf c 5 x) h (rw e (omega arith)) (rw e (omega arith)) (rw e (less-other q x hx c ∙ omega arith))
 
-    leads-other : (c : ℕ) → t .age ≡ suc c → (y : ℕ) → Leads t (120 * q + x) y → (atOf c 5 x ≡ 2) × (48 + lessOf c 5 x ≡ y)
+    pub leads-other : (c : ℕ) → t .age ≡ suc c → (y : ℕ) → Leads t (120 * q + x) y → (atOf c 5 x ≡ 2) × (48 + lessOf c 5 x ≡ y)
     leads-other c e y m =
         let (a, b, h, d) = leads-six (120 * q + x) y m in
         let u = at-other q x hx c in
@@ -196,16 +196,9 @@ module _ (s : List ℕ) (g : ℕ) where
 
 -- a rank before the node, as the youngest's place and the rank of the others
 module _ (t : Stop) (six : t .count ≡ 6) (s : List ℕ) (g : ℕ) (from : Sources t s g) (r : ℕ) (e : source s g r ≡ true) where
-  source-low : 240 ≤ r
-  source-low = from r e .middle six
-
-  source-high : r < 480
-  source-high = held-below r (source-held s g r e)
-
   pub source-split : (2 ≤ r / 120) × (r / 120 < 4) × (r % 120 < 120) × (120 * (r / 120) + r % 120 ≡ r)
   source-split =
-      let a = source-low in
-      let b = source-high in
+      let (a, b) = from r e .middle six in
       (omega arith, omega arith, omega arith, omega arith)
 
 -- five words of which the third alone has orders

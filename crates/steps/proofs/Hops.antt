@@ -166,21 +166,6 @@ hop-held ku kl (suc (suc zero)) a b r p x hu hl f h l d e =
     rw (← kept (eqb p (atOf a b r) && fits ku kl (suc p) b) (lessOf a b r) x e .1) (ended-held a b r f (h (omega arith)) l)
 hop-held ku kl (suc (suc (suc k))) a b r p x hu hl f h l d e = let z : _≡_ {A = ℕ} 0 1 = cc in absurd (omega arith)
 
--- with six nets open after it the youngest has two or more above it, if it had before
-pub hop-middle : (ku kl k a b r p x : ℕ) → ku ≤ 3 → kl ≤ 3 → b ≤ capacity → (b ≡ capacity → 240 ≤ r) →
-    hopOf ku kl (step k a b) r p ≡ some x → left (kindIn k) b ≡ capacity → 240 ≤ x
-unfolding hopOf left kindIn
-hop-middle ku kl zero a b r p x hu hl h m e c =
-    let (t, q) = kept (fits ku kl (suc p) (suc b)) (p * fact b + r) x e in
-    let f : Fits ku kl (suc p) (suc b) = fits-fits ku kl (suc p) (suc b) t in
-    let n : fact b ≡ 120 = ap fact (omega arith) ∙ fact-of-five in
-    let y : p * 120 + r ≡ x = rw n at q in
-    omega arith
-hop-middle ku kl (suc zero) a b r p x hu hl h m e c =
-    rw (← kept (eqb p (atOf a b r) && fits ku kl (suc p) b) r x e .1) (m c)
-hop-middle ku kl (suc (suc zero)) a b r p x hu hl h m e c = absurd (omega arith)
-hop-middle ku kl (suc (suc (suc k))) a b r p x hu hl h m e c = let z : _≡_ {A = ℕ} 0 1 = cc in absurd (omega arith)
-
 pub stop-held : (t : Stop) (r p x : ℕ) → Sound t → r < fact (t .count) → held r ≡ true → hopAt t r p ≡ some x → held x ≡ true
 stop-held t r p x h = hop-held (t .ku) (t .kl) (t .kind) (t .age) (t .count) r p x (h .upper) (h .lower) (h .few) (h .touched)
 

@@ -16,4 +16,5 @@ pub mod EndingFew
 pub mod EndingSets
 pub mod EndingFive
 pub mod EndingSix
+pub mod RanksLed
 pub mod EndingGaps

@@ -188,11 +188,11 @@ module _ (b k : ℕ) where
   unfolding slotsOf pick
   slots-few h = rw (lt-ltb b 5 h)
 
-  pub slots-five : b ≡ 5 → slotsOf b k ≡ ltb k 5
+  pub slots-five : b ≡ 5 → slotsOf b k ≡ between 1 4 k
   unfolding slotsOf pick
   slots-five e = rw e
 
-  pub slots-six : b ≡ 6 → slotsOf b k ≡ leb 5 k
+  pub slots-six : b ≡ 6 → slotsOf b k ≡ leb 5 k && between 1 4 ((k - 5) % 5)
   unfolding slotsOf pick
   slots-six e = rw e
 
@@ -203,6 +203,22 @@ one-more k e = go (ltb k e) (eqb k e) refl refl
     go true u et eu = sym (lt-ltb k (e + 1) (omega (arith, ltb-true k e et)))
     go false true et eu = sym (lt-ltb k (e + 1) (omega (arith, eqb-true k e eu)))
     go false false et eu = sym (le-ltb k (e + 1) (omega (arith, ltb-false k e et, eqb-false k e eu)))
+
+-- words from one on, and one more
+copy-same : (from k j : ℕ) → from ≤ k → between from k j || eqb j k ≡ between from (k + 1) j
+unfolding between
+copy-same from k j h = go (leb from j) refl
+  where
+    go : (t : Bool) → leb from j ≡ t → (t && ltb j k) || eqb j k ≡ t && ltb j (k + 1)
+    go true e = one-more j k
+    go false e = ne-eqb j k (λ q. omega (arith, leb-false from j e))
+
+copy-none : (from j : ℕ) → between from from j ≡ false
+copy-none from j = go (leb from j) refl
+  where
+    go : (t : Bool) → leb from j ≡ t → between from from j ≡ false
+    go true e = between-over from from j (leb-true from j e) (leb-true from j e)
+    go false e = between-under from from j (leb-false from j e)
 
 and-none : (t : Bool) → t && false ≡ false
 and-none true = refl
@@ -243,65 +259,68 @@ pub few-bare : (s : List ℕ) (g m x w : ℕ) (v : List ℕ) → m < 16777216 �
     Bare v g (eqb w 0)
 few-bare s g m x w v l ew b z = put-bare s g 0 w v (omega arith) b z (omega (arith, ew, and-le-r x m))
 
--- five nets: the words before e
+-- five nets: the words from 1 on before e
 module _ (a l : ℕ) (s : List ℕ) (g h : ℕ) where
   abbrev pub Five : ℕ → Bool
   Five x = marked s h x && bit l (atOf a 5 x)
 
-  pub five-start : Sifts s g (λ k. ltb k 0) Five s 0
-  five-start = sifts-start s g Five (λ k. ltb k 0) (λ k i. le-ltb k 0 (omega arith))
+  pub five-start : Sifts s g (between 1 1) Five s 0
+  five-start = sifts-start s g Five (between 1 1) (λ k i. copy-none 1 k)
 
-  pub five-step : (e m w any : ℕ) (u v : List ℕ) → (h ≡ g → ⊥) → e < 5 → Sifts s g (λ k. ltb k e) Five u any →
+  pub five-step : (e m w any : ℕ) (u v : List ℕ) → (h ≡ g → ⊥) → 1 ≤ e → e < 4 → Sifts s g (between 1 e) Five u any →
       Mask 24 (λ r. bit l (atOf a 5 (24 * e + r))) m → w ≡ bitAnd (wordAt u h e) m → Written u g e w v →
-      Sifts s g (λ k. ltb k (e + 1)) Five v (bitOr any w)
-  five-step e m w any u v n i r f ew b =
-      sifts-map s g Five (λ k. ltb k e || eqb k e) (λ k. ltb k (e + 1)) v (bitOr any w) (λ k j. one-more k e)
-      (sifts-more s g h (λ x. bit l (atOf a 5 x)) (λ k. ltb k e) e m w u v n ew b at-rank any (omega arith) (f .below) r)
+      Sifts s g (between 1 (e + 1)) Five v (bitOr any w)
+  five-step e m w any u v n o i r f ew b =
+      sifts-map s g Five (λ k. between 1 e k || eqb k e) (between 1 (e + 1)) v (bitOr any w) (λ k j. copy-same 1 e k o)
+      (sifts-more s g h (λ x. bit l (atOf a 5 x)) (between 1 e) e m w u v n ew b at-rank any (omega arith) (f .below) r)
     where
       at-rank : (x : ℕ) → held x ≡ true → slot x ≡ e → marked s h x ≡ true → bit m (x % 24) ≡ bit l (atOf a 5 x)
       at-rank x j q y = five-stands-at a l e m x (sym q ∙ slot-five x j (omega arith) .1) f
 
--- six nets: the words of two places of the youngest, for the next before e
+-- six nets: the words of two places of the youngest, for those of the next from 1 on before e
 pub paired : (e k : ℕ) → Bool
-paired e k = leb 5 k && ltb ((k - 5) % 5) e
+paired e k = leb 5 k && between 1 e ((k - 5) % 5)
 
-pairs-right : (e k : ℕ) → Bool
-pairs-right e k = alike ((paired e k || eqb k (5 + e)) || eqb k (10 + e)) (paired (e + 1) k)
+pairs-right : (d k : ℕ) → Bool
+pairs-right d k = alike ((paired (d + 1) k || eqb k (5 + (d + 1))) || eqb k (10 + (d + 1))) (paired (d + 2) k)
 
 pairs-row : ℕ → Bool
-pairs-row e = every (pairs-right e) 15
+pairs-row d = every (pairs-right d) 15
 
-pairs-all : every pairs-row 5 ≡ true
-unfolding pairs-row pairs-right paired alike every
+pairs-all : every pairs-row 3 ≡ true
+unfolding pairs-row pairs-right paired between alike every
 pairs-all = refl
 
-pair-more : (e k : ℕ) → e < 5 → k < 15 → (paired e k || eqb k (5 + e)) || eqb k (10 + e) ≡ paired (e + 1) k
+pair-more : (e k : ℕ) → 1 ≤ e → e < 4 → k < 15 → (paired e k || eqb k (5 + e)) || eqb k (10 + e) ≡ paired (e + 1) k
 unfolding pairs-row pairs-right
-pair-more e k he hk =
-    alike-same ((paired e k || eqb k (5 + e)) || eqb k (10 + e)) (paired (e + 1) k)
-    (every-at (pairs-right e) 15 (every-at pairs-row 5 pairs-all e he) k hk)
+pair-more e k ho he hk =
+    let d : e - 1 + 1 ≡ e = omega arith in
+    let c : e - 1 + 2 ≡ e + 1 = omega arith in
+    rw (d, c) at
+    (alike-same ((paired (e - 1 + 1) k || eqb k (5 + (e - 1 + 1))) || eqb k (10 + (e - 1 + 1))) (paired (e - 1 + 2) k)
+    (every-at (pairs-right (e - 1)) 15 (every-at pairs-row 3 pairs-all (e - 1) (omega arith)) k hk))
 
-pair-none : (k : ℕ) → paired 0 k ≡ false
+pair-none : (k : ℕ) → paired 1 k ≡ false
 unfolding paired
-pair-none k = ap (λ (t : Bool). leb 5 k && t) (le-ltb ((k - 5) % 5) 0 (omega arith)) ∙ and-none (leb 5 k)
+pair-none k = ap (λ (t : Bool). leb 5 k && t) (copy-none 1 ((k - 5) % 5)) ∙ and-none (leb 5 k)
 
-pair-all : (k : ℕ) → paired 5 k ≡ leb 5 k
+pair-all : (b k : ℕ) → b ≡ 6 → paired 4 k ≡ slotsOf b k
 unfolding paired
-pair-all k = ap (λ (t : Bool). leb 5 k && t) (lt-ltb ((k - 5) % 5) 5 (omega arith)) ∙ and-all (leb 5 k)
+pair-all b k h = sym (slots-six b k h)
 
 module _ (a : ℕ) (s : List ℕ) (g h : ℕ) where
   abbrev pub Six : ℕ → Bool
   Six x = marked s h x && roomAt 3 3 a 6 x
 
-  pub six-start : Sifts s g (paired 0) Six s 0
-  six-start = sifts-start s g Six (paired 0) (λ k l. pair-none k)
+  pub six-start : Sifts s g (paired 1) Six s 0
+  six-start = sifts-start s g Six (paired 1) (λ k l. pair-none k)
 
-  pub six-step : (e m x y any : ℕ) (u v w : List ℕ) → (h ≡ g → ⊥) → e < 5 → Sifts s g (paired e) Six u any → InSix a e m →
+  pub six-step : (e m x y any : ℕ) (u v w : List ℕ) → (h ≡ g → ⊥) → 1 ≤ e → e < 4 → Sifts s g (paired e) Six u any → InSix a e m →
       x ≡ bitAnd (wordAt u h (5 + e)) m → Written u g (5 + e) x v → y ≡ bitAnd (wordAt v h (10 + e)) m → Written v g (10 + e) y w →
       Sifts s g (paired (e + 1)) Six w (bitOr (bitOr any x) y)
-  six-step e m x y any u v w n l r f ex b ey c =
+  six-step e m x y any u v w n o l r f ex b ey c =
       sifts-map s g Six (λ k. (paired e k || eqb k (5 + e)) || eqb k (10 + e)) (paired (e + 1)) w (bitOr (bitOr any x) y)
-      (λ k j. pair-more e k l j)
+      (λ k j. pair-more e k o l j)
       (sifts-more s g h (roomAt 3 3 a 6) (λ k. paired e k || eqb k (5 + e)) (10 + e) m y v w n ey c
       (λ z j q d. at-rank z (10 + e) j q (omega arith) (omega arith)) (bitOr any x) (omega arith) (f .below)
       (sifts-more s g h (roomAt 3 3 a 6) (paired e) (5 + e) m x u v n ex b
@@ -323,11 +342,15 @@ rank-slots b r h l m = go (ltb b 5) (eqb b 5) refl refl
     go false true et eu =
         let hb : b ≡ 5 = eqb-true b 5 eu in
         let hr : r < 120 = omega (arith, m .below, ap fact hb, fact-of-five) in
-        slots-five b (slot r) hb ∙ lt-ltb (slot r) 5 (omega (arith, slot-few r hr))
+        let (lo, hi) = m .inner (omega arith) in
+        let e = slot-few r hr in
+        slots-five b (slot r) hb ∙ between-in 1 4 (slot r) (omega arith) (omega arith)
     go false false et eu =
         let hb : b ≡ 6 = omega (arith, ltb-false b 5 et, eqb-false b 5 eu) in
-        let hr : 240 ≤ r = m .middle hb in
-        slots-six b (slot r) hb ∙ le-leb 5 (slot r) (omega (arith, slot-middle r (omega arith)))
+        let (lo, hi) = m .inner (omega arith) in
+        let (l′, h′) = m .middle hb in
+        let e = slot-middle r (omega arith) in
+        slots-six b (slot r) hb ∙ ap₂ _&&_ (le-leb 5 (slot r) (omega arith)) (between-in 1 4 ((slot r - 5) % 5) (omega arith) (omega arith))
 
 -- a gap that is left empty, where nothing is led to
 pub unreached : (t : Stop) (s : List ℕ) (g : ℕ) → Empty s g → ((x : ℕ) → Reached t s g x → ⊥) → Exactly s g (Reached t s g) s
@@ -396,45 +419,30 @@ module _ (t : Stop) (s : List ℕ) (g h : ℕ) (eg : g ≡ suc h) (sound : Sound
         redone-exactly (λ x. bit l (atOf (t .age) (t .count) x)) (λ k. false || eqb k 0) u
         (λ x r. legal-room (t .ku) (t .kl) (t .age) (t .count) l x f among (r .below)) (λ k i. sym (slots-few (t .count) k few)) z o a
 
-    pub five-exactly : (l e any : ℕ) (u : List ℕ) → t .count ≡ 5 → Legal (t .ku) (t .kl) 5 l → 5 ≤ e → e ≤ 5 →
-        Sifts s g (λ k. ltb k e) (Five (t .age) l s g h) u any → Exactly s g (Reached t s g) u
+    pub five-exactly : (l e any : ℕ) (u : List ℕ) → t .count ≡ 5 → Legal (t .ku) (t .kl) 5 l → 4 ≤ e → e ≤ 4 →
+        Sifts s g (between 1 e) (Five (t .age) l s g h) u any → Exactly s g (Reached t s g) u
     five-exactly l e any u eb f i j a =
-        let d : e ≡ 5 = omega arith in
-        redone-exactly (λ x. bit l (atOf (t .age) 5 x)) (λ k. ltb k e) u
+        let d : e ≡ 4 = omega arith in
+        redone-exactly (λ x. bit l (atOf (t .age) 5 x)) (between 1 e) u
         (λ x r.
         let b : x < fact 5 = rw eb at (r .below) in
         legal-room (t .ku) (t .kl) (t .age) 5 l x f (omega (arith, among)) b ∙ ap (λ (n : ℕ). roomAt (t .ku) (t .kl) (t .age) n x) (sym eb))
-        (λ k m. ap (ltb k) d ∙ sym (slots-five (t .count) k eb)) z o (a .redone)
+        (λ k m. ap (λ (n : ℕ). between 1 n k) d ∙ sym (slots-five (t .count) k eb)) z o (a .redone)
 
-    pub six-exactly : (e any : ℕ) (u : List ℕ) → t .count ≡ 6 → 6 ≤ t .ku + t .kl → 5 ≤ e → e ≤ 5 →
+    pub six-exactly : (e any : ℕ) (u : List ℕ) → t .count ≡ 6 → 6 ≤ t .ku + t .kl → 4 ≤ e → e ≤ 4 →
         Sifts s g (paired e) (Six (t .age) s g h) u any → Exactly s g (Reached t s g) u
     six-exactly e any u eb sum i j a =
-        let d : e ≡ 5 = omega arith in
+        let d : e ≡ 4 = omega arith in
         let eu : t .ku ≡ 3 = omega (arith, sound .upper, sound .lower) in
         let el : t .kl ≡ 3 = omega (arith, sound .upper, sound .lower) in
         redone-exactly (roomAt 3 3 (t .age) 6) (paired e) u (λ x r. rw (eu, el, eb))
-        (λ k m. ap (λ (n : ℕ). paired n k) d ∙ pair-all k ∙ sym (slots-six (t .count) k eb)) z o (a .redone)
+        (λ k m. ap (λ (n : ℕ). paired n k) d ∙ pair-all (t .count) k eb) z o (a .redone)
 
   -- where no order fits nothing is led to
   pub none-exactly : t .ku + t .kl < t .count → Empty s g → Exactly s g (Reached t s g) s
   none-exactly c z = unreached t s g z (λ x r. room-sum (r .rank) c (leads-room (r .rank) x (r .leads) .1))
 
 -- words copied from the gap after
-copy-same : (from k j : ℕ) → from ≤ k → between from k j || eqb j k ≡ between from (k + 1) j
-unfolding between
-copy-same from k j h = go (leb from j) refl
-  where
-    go : (t : Bool) → leb from j ≡ t → (t && ltb j k) || eqb j k ≡ t && ltb j (k + 1)
-    go true e = one-more j k
-    go false e = ne-eqb j k (λ q. omega (arith, leb-false from j e))
-
-copy-none : (from j : ℕ) → between from from j ≡ false
-copy-none from j = go (leb from j) refl
-  where
-    go : (t : Bool) → leb from j ≡ t → between from from j ≡ false
-    go true e = between-over from from j (leb-true from j e) (leb-true from j e)
-    go false e = between-under from from j (leb-false from j e)
-
 module _ (s : List ℕ) (g from : ℕ) where
   abbrev After : ℕ → Bool
   After x = marked s (suc g) x
@@ -465,13 +473,44 @@ module _ (b k : ℕ) where
       (λ e. eq-eqb k 0 (omega (arith, between-out 0 1 k e .1))) (λ e. between-in 0 1 k (omega arith) (omega (arith, eqb-true k 0 e))) ∙
       sym (slots-few b k h)
 
-  between-five : b ≡ 5 → between 0 5 k ≡ slotsOf b k
-  between-five h = same-test (between 0 5 k) (ltb k 5)
-      (λ e. lt-ltb k 5 (between-out 0 5 k e .1)) (λ e. between-in 0 5 k (omega arith) (ltb-true k 5 e)) ∙ sym (slots-five b k h)
+-- of six nets, the words of both places of the youngest
+copies : ℕ → Bool
+copies k = between 6 9 k || between 11 14 k
 
-  between-six : b ≡ 6 → k < slots → between 5 15 k ≡ slotsOf b k
-  between-six h l = same-test (between 5 15 k) (leb 5 k)
-      (λ e. le-leb 5 k (between-out 5 15 k e .0)) (λ e. between-in 5 15 k (leb-true 5 k e) l) ∙ sym (slots-six b k h)
+copies-right : ℕ → Bool
+copies-right k = alike (copies k) (leb 5 k && between 1 4 ((k - 5) % 5))
+
+copies-all : every copies-right 15 ≡ true
+unfolding copies-right copies between alike every
+copies-all = refl
+
+copies-six : (b k : ℕ) → b ≡ 6 → k < slots → copies k ≡ slotsOf b k
+unfolding copies-right
+copies-six b k h l =
+    alike-same (copies k) (leb 5 k && between 1 4 ((k - 5) % 5)) (every-at copies-right 15 copies-all k l) ∙ sym (slots-six b k h)
+
+-- words made anew in two turns
+redone-join : (s : List ℕ) (g : ℕ) (K L Q P : ℕ → Bool) (u v : List ℕ) → ((x : ℕ) → P x ≡ Q x) → Redone s g K Q u → Redone u g L P v →
+    Redone s g (λ k. K k || L k) Q v
+redone-join s g K L Q P u v same a b =
+    record {
+      long = b .long ∙ a .long;
+      others = λ h x n. b .others h x n ∙ a .others h x n;
+      done = λ x h e. done x h (L (slot x)) refl e;
+      left = λ x h e. let (p, q) = or-none (K (slot x)) (L (slot x)) e in b .left x h q ∙ a .left x h p;
+    }
+  where
+    or-none : (k l : Bool) → k || l ≡ false → (k ≡ false) × (l ≡ false)
+    or-none false l e = (refl, e)
+    or-none true l e = absurd (not-both e refl)
+
+    first-of : (k : Bool) → k || false ≡ true → k ≡ true
+    first-of true e = refl
+    first-of false e = e
+
+    done : (x : ℕ) → held x ≡ true → (l : Bool) → L (slot x) ≡ l → K (slot x) || l ≡ true → marked v g x ≡ Q x
+    done x h true q e = b .done x h q ∙ same x
+    done x h false q e = b .left x h q ∙ a .done x h (first-of (K (slot x)) e)
 
 -- where a net is touched the ranks that are marked after the node are those that lead on
 module _ (t : Stop) (s : List ℕ) (g : ℕ) (u : List ℕ) (sound : Sound t) (touches : t .kind ≡ 1) (o : Sources t s (suc g))
@@ -517,10 +556,14 @@ module _ (t : Stop) (s : List ℕ) (g : ℕ) (u : List ℕ) (sound : Sound t) (t
   copied-few h r =
       copied-loses (redone-map s g (λ x. marked s (suc g) x) (between 0 1) (slotsOf (t .count)) u (λ k l. between-few (t .count) k h) r)
 
-  pub copied-five : t .count ≡ 5 → Redone s g (between 0 5) (λ x. marked s (suc g) x) u → Loses s g (Onward t s (suc g)) u
+  pub copied-five : t .count ≡ 5 → Redone s g (between 1 4) (λ x. marked s (suc g) x) u → Loses s g (Onward t s (suc g)) u
   copied-five h r =
-      copied-loses (redone-map s g (λ x. marked s (suc g) x) (between 0 5) (slotsOf (t .count)) u (λ k l. between-five (t .count) k h) r)
+      copied-loses (redone-map s g (λ x. marked s (suc g) x) (between 1 4) (slotsOf (t .count)) u (λ k l. sym (slots-five (t .count) k h)) r)
 
-  pub copied-six : t .count ≡ 6 → Redone s g (between 5 15) (λ x. marked s (suc g) x) u → Loses s g (Onward t s (suc g)) u
-  copied-six h r =
-      copied-loses (redone-map s g (λ x. marked s (suc g) x) (between 5 15) (slotsOf (t .count)) u (λ k l. between-six (t .count) k h l) r)
+  pub copied-six : t .count ≡ 6 → (w : List ℕ) → Redone s g (between 6 9) (λ x. marked s (suc g) x) w →
+      Redone w g (between 11 14) (λ x. marked w (suc g) x) u → Loses s g (Onward t s (suc g)) u
+  unfolding copies
+  copied-six h w a b =
+      copied-loses (redone-map s g (λ x. marked s (suc g) x) copies (slotsOf (t .count)) u (λ k l. copies-six (t .count) k h l)
+      (redone-join s g (between 6 9) (between 11 14) (λ x. marked s (suc g) x) (λ x. marked w (suc g) x) w u
+      (λ x. a .others (suc g) x (λ e. omega arith)) a b))

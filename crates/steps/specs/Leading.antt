@@ -5,7 +5,7 @@ use mathlib.Core.List.{List}
 use mathlib.Core.Option.{some}
 use Prim.Native.Nat.{ℕ, _<_}
 use Rattle.steps.specs.declared.rank.Stop.{Stop}
-use Rattle.steps.specs.Ranks.{capacity, fact}
+use Rattle.steps.specs.Ranks.{capacity, fact, RankOf}
 use Rattle.steps.specs.Sets.{ranks, marked, source}
 use Rattle.steps.specs.Stops.{hopAt}
 
@@ -17,7 +17,7 @@ pub record Leads (t : Stop) (r x : ℕ) : Type 0 where
 -- the stop leads to rank x from a rank of the nets that it finds open
 pub record Led (t : Stop) (x : ℕ) : Type 0 where
   pub rank : ℕ
-  pub below : rank < fact (t .count)
+  pub of : RankOf (t .count) rank
   pub leads : Leads t rank x
 
 -- the stop leads from a rank before node g to rank x

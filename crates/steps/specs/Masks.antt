@@ -2,7 +2,7 @@
 use mathlib.Core.Path.{_≡_}
 use mathlib.Core.Bool.{Bool, true, false, _&&_}
 use mathlib.Core.List.{List}
-use Prim.Native.Nat.{ℕ, suc, _+_, _-_, _*_, _<_, _≤_}
+use Prim.Native.Nat.{ℕ, suc, _+_, _-_, _*_, _%_, _<_, _≤_}
 use lib.ListN.{length}
 use lib.Bits.{bitAnd}
 use lib.Dec.{leb, ltb, eqb}
@@ -16,9 +16,9 @@ use Rattle.steps.specs.Sets.{held, slot, wordAt, bit, marked, source, Wr
 unfoldable pub between : (lo hi p : ℕ) → Bool
 between lo hi p = leb lo p && ltb p hi
 
--- the words that ranks of b nets are in
+-- the words that ranks of b nets are in: of five nets one for each place of the fifth, of six for each place of the youngest such three
 unfoldable pub slotsOf : (b k : ℕ) → Bool
-slotsOf b k = pick (ltb b 5) (eqb k 0) (pick (eqb b 5) (ltb k 5) (leb 5 k))
+slotsOf b k = pick (ltb b 5) (eqb k 0) (pick (eqb b 5) (between 1 4 k) (leb 5 k && between 1 4 ((k - 5) % 5)))
 
 -- the net of age a keeps the limits where it stands in the order of rank r of b nets
 unfoldable pub roomAt : (ku kl a b r : ℕ) → Bool

@@ -67,10 +67,12 @@ unfoldable pub openAfter : ℕ → List Step → ℕ
 openAfter b [] = b
 openAfter b (step k a c ∷ ss) = openAfter (left (kindIn k) b) ss
 
--- r is the rank of an order of b nets that hops can lead to: of six, the youngest has two or more above it
+-- r is the rank of an order of b nets that hops can lead to: of five or six, the fifth has one, two or three of its elders above it, and of six the youngest has two or
+-- three others
 pub record RankOf (b r : ℕ) : Type 0 where
   pub below : r < fact b
-  pub middle : b ≡ capacity → 240 ≤ r
+  pub inner : 5 ≤ b → (24 ≤ r % 120) × (r % 120 < 96)
+  pub middle : b ≡ capacity → (240 ≤ r) × (r < 480)
 
 -- the steps lead from rank 0, the order of no nets, to rank x
 pub record Way (ku kl : ℕ) (ss : List Step) (x : ℕ) : Type 0 where

@@ -53,7 +53,7 @@ fn touch_few(work: &mut [u8], g: usize, stop: Stop, tables: &[u32]) -> bool
     sift(work, g, 0, m) == 0
 }
 
-// Five nets: a word for each place of the youngest.
+// Five nets: a word for each place of the youngest, which has one, two or three above it.
 fn touch_five(work: &mut [u8], g: usize, stop: Stop, tables: &[u32]) -> bool
     requires { ⌜ Sound stop × (stretch * suc g ≤ length (now work)) × (0 < g) × (stop .kind ≡ 1) ⌝ }
     requires { ⌜ Empty (now work) g ⌝ }
@@ -67,8 +67,8 @@ fn touch_five(work: &mut [u8], g: usize, stop: Stop, tables: &[u32]) -> bool
     let kl = stop.kl;
     let l = legal(tables, ku, kl, 5);
     let mut any: u32 = 0;
-    let mut e: usize = 0;
-    while e < 5 {
+    let mut e: usize = 1;
+    while e < 4 {
         let m = five_at(tables, a, l, e);
         any = any | sift(work, g, e, m);
         e += 1;
@@ -92,8 +92,8 @@ fn touch_six(work: &mut [u8], g: usize, stop: Stop, tables: &[u32]) -> bool
     }
     let a = stop.age as usize;
     let mut any: u32 = 0;
-    let mut e: usize = 0;
-    while e < 5 {
+    let mut e: usize = 1;
+    while e < 4 {
         let m = six_at(tables, a, e);
         any = any | sift(work, g, 5 + e, m);
         any = any | sift(work, g, 10 + e, m);
@@ -127,10 +127,11 @@ pub fn prune_touched(work: &mut [u8], g: usize, stop: Stop)
         return;
     }
     if b == 5 {
-        copy_back(work, g, 0, 5);
+        copy_back(work, g, 1, 4);
         return;
     }
-    copy_back(work, g, 5, 15);
+    copy_back(work, g, 6, 9);
+    copy_back(work, g, 11, 14);
 }
 
 // Puts into the slots of gap g from `from` on before `to` what the gap after it has there.

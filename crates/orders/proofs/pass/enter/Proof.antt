@@ -47,7 +47,7 @@ enter-sixth-requires c κs =
     let g = c .before .before .before in
     let e : g .args .b ≡ 5 = omega (arith, g .pre .0 .1, c .if2 .left, c .before .if1 .left) in (
       (g .pre .0 .0, rw e at (g .pre .0 .2)),
-      (rw e at (g .pre .1 .0), λ x m. g .pre .1 .1 x m .middle (omega arith)),
+      (rw e at (g .pre .1 .0), λ x m. g .pre .1 .1 x m .middle (omega arith) .0),
     )
 
 returns-3 : tie.Need-returns-3

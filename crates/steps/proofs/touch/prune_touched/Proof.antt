@@ -1,7 +1,7 @@
 -- `steps::touch::prune_touched` meets its contract, by how many nets are open.
 use native.Mathlib.Omega.{arith}
-use Rattle.steps.proofs.Touching.{copied-few, copied-five, copied-six}
 use borrow.Author.Needs.{needs}
+use Rattle.steps.proofs.Touching.{copied-few, copied-five, copied-six}
 use Rattle.steps.proofs.touch.prune_touched.Statement.{statement}
 use Rattle.steps.proofs.touch.prune_touched.Tie as tie
 
@@ -37,15 +37,19 @@ returns-2 c =
 copy-back-requires-3 : tie.Need-copy-back-requires-3
 copy-back-requires-3 c κs = search needs
 
+copy-back-requires-4 : tie.Need-copy-back-requires-4
+copy-back-requires-4 c κs = search needs
+
 same-length-3 : tie.Need-same-length-3
 same-length-3 c = search needs
 
 returns-3 : tie.Need-returns-3
 returns-3 c =
-    let g = c .before .before .before .before .before .before .before .before in
+    let g = c .before .before .before .before .before .before .before .before .before .before .before .before in
     let a = g .args in
-    let v = c .before .before .copy-back3 in
-    copied-six (a .stop) (a .work .now) (a .g) (v .last .0) (g .pre .0 .0) (g .pre .0 .2) (g .pre .1 .0) (g .pre .1 .1) (omega (arith, g .pre .0 .0 .few, c .before .before .before .before .before .if1 .left, c .before .before .before .before .if2 .left)) (v .ensures)
+    let w = c .before .before .before .before .before .before .copy-back3 in
+    let v = c .before .before .copy-back4 in
+    copied-six (a .stop) (a .work .now) (a .g) (v .last .0) (g .pre .0 .0) (g .pre .0 .2) (g .pre .1 .0) (g .pre .1 .1) (omega (arith, g .pre .0 .0 .few, c .before .before .before .before .before .before .before .before .before .if1 .left, c .before .before .before .before .before .before .before .before .if2 .left)) (w .last .0) (w .ensures) (v .ensures)
 
 pub prune-touched-spec : {M : Type 1} → statement M
 prune-touched-spec =
@@ -59,5 +63,6 @@ prune-touched-spec =
     same-length-2
     returns-2
     copy-back-requires-3
+    copy-back-requires-4
     same-length-3
     returns-3)

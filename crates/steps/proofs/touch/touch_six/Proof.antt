@@ -7,10 +7,10 @@ use Rattle.steps.proofs.touch.touch_six.Statement.{statement}
 use Rattle.steps.proofs.touch.touch_six.Tie as tie
 
 abbrev Inv-loop : tie.InvT-loop
-Inv-loop work₀ g tables ku kl a any₀ e₀ work any e = Sifts work₀ g (paired e) (Six a work₀ g (g - 1)) work any × (e ≤ 5)
+Inv-loop work₀ g tables ku kl a any₀ e₀ work any e = Sifts work₀ g (paired e) (Six a work₀ g (g - 1)) work any × (1 ≤ e) × (e ≤ 4)
 
 abbrev μ-loop : tie.MeasureT-loop
-μ-loop work₀ g tables ku kl a any₀ e₀ work any e = 5 - e
+μ-loop work₀ g tables ku kl a any₀ e₀ work any e = 4 - e
 
 cast-ku : tie.Need-cast-ku Inv-loop μ-loop
 cast-ku c = search needs
@@ -36,12 +36,12 @@ cast-a c = search needs
 loop-holds : tie.Need-loop-holds Inv-loop μ-loop
 loop-holds c =
     let g = c .before .before .before .before .before .before .args in
-    (six-start (g .stop .age) (g .work .now) (g .g) (g .g - 1), omega arith)
+    (six-start (g .stop .age) (g .work .now) (g .g) (g .g - 1), omega arith, omega arith)
 
 six-at-requires : tie.Need-six-at-requires Inv-loop μ-loop
 six-at-requires c κs =
     let h = c .before .before .before .before .before .before .before .before .pre in
-    (h .1 .1 .1 .0, omega (arith, h .0 .0 .touched (omega (arith, h .0 .3)), h .1 .1 .1 .1), c .loop-test .taken)
+    (h .1 .1 .1 .0, omega (arith, h .0 .0 .touched (omega (arith, h .0 .3)), h .1 .1 .1 .1), omega (arith, c .loop-test .taken))
 
 add-sift : tie.Need-add-sift Inv-loop μ-loop
 add-sift c = omega (arith, c .before .before .loop-test .taken)
@@ -78,7 +78,8 @@ loop-again c =
     let v = c .before .before .before .before .before .before .sift in
     let w = c .before .before .sift2 in (
       six-step (a .stop .age) (a .work .now) (a .g) (a .g - 1) (l .e) (m .result) (v .result) (w .result) (l .any) (l .work) (v .last .0) (w .last .0)
-          (omega (arith, g .pre .0 .2)) t (l .inv .0) (m .ensures) (v .ensures .word) (v .ensures .put) (w .ensures .word) (w .ensures .put),
+          (omega (arith, g .pre .0 .2)) (l .inv .1) t (l .inv .0) (m .ensures) (v .ensures .word) (v .ensures .put) (w .ensures .word) (w .ensures .put),
+      omega arith,
       omega (arith, t),
     )
 
@@ -92,7 +93,7 @@ returns-2 c =
     let l = c .before .loop in
     let s = g .work .now in (
       six-exactly (g .stop) s (g .g) (g .g - 1) (omega (arith, h .0 .2)) (h .0 .0) (h .0 .3) (h .1 .0) (h .1 .1 .0) (l .e) (l .any) (l .work)
-          (h .1 .1 .1 .1) (c .before .before .before .if1 .left) (c .loop-test .left) (l .inv .1) (l .inv .0),
+          (h .1 .1 .1 .1) (c .before .before .before .if1 .left) (c .loop-test .left) (l .inv .2) (l .inv .0),
       sifts-bare s (g .g) (Six (g .stop .age) s (g .g) (g .g - 1)) (paired (l .e)) (l .work) (l .any) (h .1 .0) (l .inv .0),
     )
 
