@@ -17,7 +17,7 @@ use Rattle.steps.specs.Sets.{wordAt, bit, marked}
 use Rattle.steps.specs.Stops.{hopAt, Sound}
 use Rattle.steps.specs.Leading.{Led, Onward, Least}
 use Rattle.orders.specs.Passes.{Somewhere, Entry}
-use Rattle.steps.proofs.Ranks.{fact-most, fact-of-four, fact-of-five, rank-lt, rank-digit}
+use Rattle.steps.proofs.Ranks.{fact-most, fact-of-four, rank-lt, rank-digit}
 use Rattle.steps.proofs.Slots.{held-below}
 use Rattle.steps.proofs.Bits.{not-both, marked-held, last-or}
 use Rattle.steps.proofs.Hops.{fits-fits, stop-lands}

@@ -1,4 +1,4 @@
--- An ending with five nets open, on the five words that tell the place of the youngest: the youngest ends, or is the youngest of the four left.
+-- An ending with five nets open, on the three words that tell the place of the youngest: the youngest ends, or is the youngest of the four left.
 use mathlib.Core.Path.{_≡_, refl, sym, ap, ap₂, _∙_}
 use mathlib.Core.Bool.{Bool, true, false, _&&_, _||_}
 use mathlib.Core.Logic.{_⊎_, inl, inr}
@@ -12,53 +12,56 @@ use borrow.Author.Tests.{leb-true, leb-false, ltb-true, ltb-false, le-leb, lt-le
 use Rattle.steps.specs.declared.end.Five.{Five}
 use Rattle.steps.specs.Ranks.{fact, under, spared, atOf, lessOf}
 use Rattle.steps.specs.Sets.{bit}
-use Rattle.steps.specs.Four.{placeOf, leftOf, Left, Pulls, Leaves, Gone, comes, nth, within, overAt, underAt, Passing, Piece}
+use Rattle.steps.specs.Four.{placeOf, leftOf, Left, Pulls, Leaves, Gone, comes, nth, within, overAt, underAt, Passing, Piece, Inside}
 use Rattle.steps.proofs.Bits.{not-both}
 use Rattle.steps.proofs.Ranks.{at-youngest, less-youngest, at-older, less-older, under-above, under-below, spared-above, spared-below}
 use Rattle.steps.proofs.Words.{bit-and, bit-or, bit-set, bit-unset, bit-zero, bit-shl, bit-shl-low, bit-shr, bit-mod, bit-high, bit-upper, bit-lower}
 use Rattle.steps.proofs.FourSets.{either, or-first, or-second, and-both, and-true, left-lt, place-lt}
 
--- one of five tests passes
+-- one of three tests passes
 abbrev pub anyOf : (ℕ → Bool) → Bool
-anyOf t = ((t 0 || t 1) || (t 2 || t 3)) || t 4
+anyOf t = (t 1 || t 2) || t 3
 
-pub any-some : (t : ℕ → Bool) → anyOf t ≡ true → (k : ℕ) × (k < 5) × (t k ≡ true)
-any-some t e = last (either ((t 0 || t 1) || (t 2 || t 3)) (t 4) e)
+pub any-some : (t : ℕ → Bool) → anyOf t ≡ true → (k : ℕ) × (1 ≤ k) × (k < 4) × (t k ≡ true)
+any-some t e = last (either (t 1 || t 2) (t 3) e)
   where
-    pair : (j k : ℕ) → j < 5 → k < 5 → t j || t k ≡ true → (k : ℕ) × (k < 5) × (t k ≡ true)
-    pair j k hj hk h = one (either (t j) (t k) h)
-      where
-        one : (t j ≡ true) ⊎ (t k ≡ true) → (k : ℕ) × (k < 5) × (t k ≡ true)
-        one (inl i) = (j, hj, i)
-        one (inr i) = (k, hk, i)
+    pair : (t 1 ≡ true) ⊎ (t 2 ≡ true) → (k : ℕ) × (1 ≤ k) × (k < 4) × (t k ≡ true)
+    pair (inl i) = (1, omega arith, omega arith, i)
+    pair (inr i) = (2, omega arith, omega arith, i)
 
-    four : (t 0 || t 1 ≡ true) ⊎ (t 2 || t 3 ≡ true) → (k : ℕ) × (k < 5) × (t k ≡ true)
-    four (inl h) = pair 0 1 (omega arith) (omega arith) h
-    four (inr h) = pair 2 3 (omega arith) (omega arith) h
+    last : (t 1 || t 2 ≡ true) ⊎ (t 3 ≡ true) → (k : ℕ) × (1 ≤ k) × (k < 4) × (t k ≡ true)
+    last (inl h) = pair (either (t 1) (t 2) h)
+    last (inr h) = (3, omega arith, omega arith, h)
 
-    last : ((t 0 || t 1) || (t 2 || t 3) ≡ true) ⊎ (t 4 ≡ true) → (k : ℕ) × (k < 5) × (t k ≡ true)
-    last (inl h) = four (either (t 0 || t 1) (t 2 || t 3) h)
-    last (inr h) = (4, omega arith, h)
+pub some-any : (t : ℕ → Bool) (k : ℕ) → 1 ≤ k → k < 4 → t k ≡ true → anyOf t ≡ true
+some-any t zero l h e = absurd (omega arith)
+some-any t (suc zero) l h e = or-first (t 1 || t 2) (t 3) (or-first (t 1) (t 2) e)
+some-any t (suc (suc zero)) l h e = or-first (t 1 || t 2) (t 3) (or-second (t 1) (t 2) e)
+some-any t (suc (suc (suc zero))) l h e = or-second (t 1 || t 2) (t 3) e
+some-any t (suc (suc (suc (suc k)))) l h e = absurd (omega arith)
 
-pub some-any : (t : ℕ → Bool) (k : ℕ) → k < 5 → t k ≡ true → anyOf t ≡ true
-some-any t zero h e =
-    or-first ((t 0 || t 1) || (t 2 || t 3)) (t 4) (or-first (t 0 || t 1) (t 2 || t 3) (or-first (t 0) (t 1) e))
-some-any t (suc zero) h e =
-    or-first ((t 0 || t 1) || (t 2 || t 3)) (t 4) (or-first (t 0 || t 1) (t 2 || t 3) (or-second (t 0) (t 1) e))
-some-any t (suc (suc zero)) h e =
-    or-first ((t 0 || t 1) || (t 2 || t 3)) (t 4) (or-second (t 0 || t 1) (t 2 || t 3) (or-first (t 2) (t 3) e))
-some-any t (suc (suc (suc zero))) h e =
-    or-first ((t 0 || t 1) || (t 2 || t 3)) (t 4) (or-second (t 0 || t 1) (t 2 || t 3) (or-second (t 2) (t 3) e))
-some-any t (suc (suc (suc (suc zero)))) h e = or-second ((t 0 || t 1) || (t 2 || t 3)) (t 4) e
-some-any t (suc (suc (suc (suc (suc k))))) h e = absurd (omega arith)
+-- the words of a set, or'ed
+abbrev pub orThree : (a b c : ℕ) → ℕ
+orThree a b c = bitOr (bitOr a b) c
 
--- the five words of a set, or'ed
-abbrev pub orFive : (a b c d e : ℕ) → ℕ
-orFive a b c d e = bitOr (bitOr (bitOr a b) (bitOr c d)) e
+pub or-three : (a b c i : ℕ) → bit (orThree a b c) i ≡ (bit a i || bit b i) || bit c i
+or-three a b c i = rw (bit-or (bitOr a b) c i, bit-or a b i)
 
-pub or-five : (a b c d e i : ℕ) → bit (orFive a b c d e) i ≡ ((bit a i || bit b i) || (bit c i || bit d i)) || bit e i
-or-five a b c d e i =
-    rw (bit-or (bitOr (bitOr a b) (bitOr c d)) e i, bit-or (bitOr a b) (bitOr c d) i, bit-or a b i, bit-or c d i)
+-- orders have the youngest at 1, 2 or 3
+pub nth-inner : (f : Five) (k i : ℕ) → bit (nth f k) i ≡ true → (1 ≤ k) × (k < 4)
+unfolding nth
+nth-inner f zero i e = absurd (not-both (bit-zero i) e)
+nth-inner f (suc zero) i e = (omega arith, omega arith)
+nth-inner f (suc (suc zero)) i e = (omega arith, omega arith)
+nth-inner f (suc (suc (suc zero))) i e = (omega arith, omega arith)
+nth-inner f (suc (suc (suc (suc k)))) i e = absurd (not-both (bit-zero i) e)
+
+pub outer-none : (f : Five) (r : ℕ) → (24 ≤ r → r < 96 → ⊥) → within f r ≡ false
+outer-none f r n = go (within f r) refl
+  where
+    go : (t : Bool) → within f r ≡ t → t ≡ false
+    go true e = let (a, b) = nth-inner f (r / 24) (r % 24) e in absurd (n (omega arith) (omega arith))
+    go false e = refl
 
 -- a word that is taken where k is in l
 module _ (l k w : ℕ) where
@@ -92,23 +95,21 @@ module _ (l : ℕ) (f : Five) where
   abbrev goes : (i k : ℕ) → Bool
   goes i k = bit l k && bit (nth f k) i
 
-  youngest-gone : (a b c d e n : ℕ) → ((i : ℕ) → bit a i ≡ goes i 0) → ((i : ℕ) → bit b i ≡ goes i 1) →
-      ((i : ℕ) → bit c i ≡ goes i 2) → ((i : ℕ) → bit d i ≡ goes i 3) → ((i : ℕ) → bit e i ≡ goes i 4) →
-      n ≡ orFive a b c d e % 16777216 → Gone 5 0 l (within f) n
+  youngest-gone : (b c d n : ℕ) → ((i : ℕ) → bit b i ≡ goes i 1) → ((i : ℕ) → bit c i ≡ goes i 2) → ((i : ℕ) → bit d i ≡ goes i 3) →
+      n ≡ orThree b c d % 16777216 → Gone 5 0 l (within f) n
   unfolding fact
-  youngest-gone a b c d e n ha hb hc hd he q =
-      record { below = rw q (mod-lt (orFive a b c d e) (pow-pos 24)); sound = λ x h. sound x h (ltb x 24) refl; full = full }
+  youngest-gone b c d n hb hc hd q =
+      record { below = rw q (mod-lt (orThree b c d) (pow-pos 24)); sound = λ x h. sound x h (ltb x 24) refl; full = full }
     where
       bits : (i : ℕ) → i < 24 → bit n i ≡ anyOf (goes i)
-      bits i h =
-          ap (λ (v : ℕ). bit v i) q ∙ bit-mod (orFive a b c d e) 24 i h ∙ or-five a b c d e i ∙ rw (ha i, hb i, hc i, hd i, he i)
+      bits i h = ap (λ (v : ℕ). bit v i) q ∙ bit-mod (orThree b c d) 24 i h ∙ or-three b c d i ∙ rw (hb i, hc i, hd i)
 
       sound : (x : ℕ) → bit n x ≡ true → (t : Bool) → ltb x 24 ≡ t → Leaves 5 0 l (within f) x
       sound x h false t =
-          absurd (not-both (bit-high n 24 x (rw q (mod-lt (orFive a b c d e) (pow-pos 24))) (ltb-false x 24 t)) h)
+          absurd (not-both (bit-high n 24 x (rw q (mod-lt (orThree b c d) (pow-pos 24))) (ltb-false x 24 t)) h)
       sound x h true t =
           let m : x < 24 = ltb-true x 24 t in
-          let (k, hk, g) = any-some (goes x) (sym (bits x m) ∙ h) in
+          let (k, lk, hk, g) = any-some (goes x) (sym (bits x m) ∙ h) in
           let (i, o) = and-both (bit l k) (bit (nth f k) x) g in
           let dk : (24 * k + x) / 24 ≡ k = omega arith in
           let dx : (24 * k + x) % 24 ≡ x = omega arith in
@@ -123,14 +124,15 @@ module _ (l : ℕ) (f : Five) where
       full : (r : ℕ) → r < fact 5 → within f r ≡ true → bit l (atOf 0 5 r) ≡ true → bit n (lessOf 0 5 r) ≡ true
       full r h i o =
           let m : r % 24 < 24 = omega arith in
+          let (lk, hk) = nth-inner f (r / 24) (r % 24) i in
           let g : bit l (r / 24) ≡ true = rw (at-first r) at o in
-          rw (less-first r) (bits (r % 24) m ∙ some-any (goes (r % 24)) (r / 24) (omega arith) (and-true (bit l (r / 24)) (bit (nth f (r / 24)) (r % 24)) g i))
+          rw (less-first r) (bits (r % 24) m ∙ some-any (goes (r % 24)) (r / 24) lk hk (and-true (bit l (r / 24)) (bit (nth f (r / 24)) (r % 24)) g i))
 
-  -- back: the five words
-  youngest-back : (n : ℕ) → ((k i : ℕ) → k < 5 → bit (nth f k) i ≡ bit l k && bit n i) → (r : ℕ) → r < 120 →
+  -- back: the words
+  youngest-back : (n : ℕ) → ((k i : ℕ) → 1 ≤ k → k < 4 → bit (nth f k) i ≡ bit l k && bit n i) → (r : ℕ) → 24 ≤ r → r < 96 →
       within f r ≡ comes 5 0 l n r
-  youngest-back n h r m =
-      h (r / 24) (r % 24) (omega arith) ∙ sym (ap₂ (λ (k i : ℕ). bit l k && bit n i) (at-first r) (less-first r))
+  youngest-back n h r o m =
+      h (r / 24) (r % 24) (omega arith) (omega arith) ∙ sym (ap₂ (λ (k i : ℕ). bit l k && bit n i) (at-first r) (less-first r))
 
 or-false : (t : Bool) → t || false ≡ t
 or-false true = refl
@@ -238,6 +240,45 @@ piece-of e l d x y u v n hu hv t =
       bits = record { bits = λ i h. rw (bit-or (bitAnd x u) (bitAnd y v) i, bit-and x u i, bit-and y v i, hu .bits i h, hv .bits i h) };
       left = t;
     }
+
+-- there is none of the youngest on top, or with three above it: the net that ended would have stood on top, or below all
+none-piece : (e l d x y : ℕ) → ((i : ℕ) → i < 24 → bit x i && overAt e l d i || bit y i && underAt e l d i ≡ false) → Piece e l d x y 0
+none-piece e l d x y f =
+    record {
+      all = 0;
+      bits = record { bits = λ i h. bit-zero i ∙ sym (f i h) };
+      left = record { below = omega arith; sound = λ j h. absurd (not-both (bit-zero j) h); full = λ i h b. absurd (not-both (bit-zero i) b) };
+    }
+
+and-no : (t : Bool) → t && false ≡ false
+and-no true = refl
+and-no false = refl
+
+module _ (e l : ℕ) (inside : Inside l) where
+  last-out : bit l 4 ≡ false
+  last-out = bit-high l 4 4 (inside .below) (omega arith)
+
+  -- the net would stand on top ..
+  under-top : (i : ℕ) → underAt e l 0 i ≡ false
+  under-top i = go (leb (placeOf e i) 0) refl
+    where
+      go : (t : Bool) → leb (placeOf e i) 0 ≡ t → t && bit l (placeOf e i) ≡ false
+      go true q = let z : placeOf e i ≡ 0 = omega (arith, leb-true (placeOf e i) 0 q) in rw z (inside .top)
+      go false q = refl
+
+  -- .. or below the four others
+  over-last : (i : ℕ) → i < 24 → overAt e l 3 i ≡ false
+  over-last i h = go (leb 3 (placeOf e i)) refl
+    where
+      go : (t : Bool) → leb 3 (placeOf e i) ≡ t → t && bit l (suc (placeOf e i)) ≡ false
+      go true q = let z : placeOf e i ≡ 3 = omega (arith, leb-true 3 (placeOf e i) q, place-lt e i h) in rw z last-out
+      go false q = refl
+
+  first-piece : (y : ℕ) → Piece e l 0 0 y 0
+  first-piece y = none-piece e l 0 0 y (λ i h. rw (bit-zero i, under-top i) (and-no (bit y i)))
+
+  last-piece : (x : ℕ) → Piece e l 3 x 0 0
+  last-piece x = none-piece e l 3 x 0 (λ i h. rw (over-last i h, bit-zero i, and-no (bit x i)))
 
 -- four pieces of six bits
 module _ (a b c d : ℕ) (ha : a < 64) (hb : b < 64) (hc : c < 64) where
@@ -407,13 +448,7 @@ module _ (e l : ℕ) (he : e < 4) where
       under-none : (d : ℕ) → k ≡ suc d → k ≤ placeOf e i → underFrom d i ≡ false
       under-none d q h = rw (lt-leb (placeOf e i) d (omega arith))
 
-      -- the first word, those between, and the last
-      first-word : k ≡ 0 → overFrom k i ≡ passes
-      first-word q = over-comes (omega arith)
-
-      last-word : (d : ℕ) → k ≡ suc d → 4 ≤ k → underFrom d i ≡ passes
-      last-word d q h = under-comes d q (omega (arith, place-lt e i hi))
-
+      -- a word has the orders with the net below the youngest and those with the net above it
       middle-word : (d : ℕ) → k ≡ suc d → overFrom k i || underFrom d i ≡ passes
       middle-word d q = go (leb k (placeOf e i)) refl
         where
@@ -429,88 +464,83 @@ module _ (e l : ℕ) (he : e < 4) where
               let h = leb-false k (placeOf e i) t in
               ap₂ _||_ (over-none h) (under-comes d q h)
 
-    older-back : (f : Five) → Passing (overFrom 0) (f .first) → Passing (λ i. overFrom 1 i || underFrom 0 i) (f .second) →
-        Passing (λ i. overFrom 2 i || underFrom 1 i) (f .third) → Passing (λ i. overFrom 3 i || underFrom 2 i) (f .fourth) →
-        Passing (underFrom 3) (f .fifth) → (r : ℕ) → r < 120 → within f r ≡ comes 5 (4 - e) l n r
+    older-back : (f : Five) → Inside l → Passing (overFrom 1) (f .second) → Passing (λ i. overFrom 2 i || underFrom 1 i) (f .third) →
+        Passing (underFrom 2) (f .fourth) → (r : ℕ) → 24 ≤ r → r < 96 → within f r ≡ comes 5 (4 - e) l n r
     unfolding nth
-    older-back f p₀ p₁ p₂ p₃ p₄ r h =
+    older-back f inside p₁ p₂ p₃ r o h =
         let v : 24 * (r / 24) + r % 24 ≡ r = omega arith in
-        go (r / 24) (r % 24) (omega arith) (omega arith) ∙ ap (λ (x : ℕ). comes 5 (4 - e) l n x) v
+        go (r / 24) (r % 24) (omega arith) (omega arith) (omega arith) ∙ ap (λ (x : ℕ). comes 5 (4 - e) l n x) v
       where
-        go : (k i : ℕ) → k < 5 → i < 24 → bit (nth f k) i ≡ comes 5 (4 - e) l n (24 * k + i)
-        go zero i hk hi = p₀ .bits i hi ∙ first-word 0 i hi refl
-        go (suc zero) i hk hi = p₁ .bits i hi ∙ middle-word 1 i hi 0 refl
-        go (suc (suc zero)) i hk hi = p₂ .bits i hi ∙ middle-word 2 i hi 1 refl
-        go (suc (suc (suc zero))) i hk hi = p₃ .bits i hi ∙ middle-word 3 i hi 2 refl
-        go (suc (suc (suc (suc zero)))) i hk hi = p₄ .bits i hi ∙ last-word 4 i hi 3 refl (omega arith)
-        go (suc (suc (suc (suc (suc k))))) i hk hi = absurd (omega arith)
+        go : (k i : ℕ) → 1 ≤ k → k < 4 → i < 24 → bit (nth f k) i ≡ comes 5 (4 - e) l n (24 * k + i)
+        go zero i ok hk hi = absurd (omega arith)
+        go (suc zero) i ok hk hi =
+            let z : underFrom 0 i ≡ false = rw (under-top e l inside i) in
+            p₁ .bits i hi ∙ sym (ap (λ (t : Bool). overFrom 1 i || t) z ∙ or-false (overFrom 1 i)) ∙ middle-word 1 i hi 0 refl
+        go (suc (suc zero)) i ok hk hi = p₂ .bits i hi ∙ middle-word 2 i hi 1 refl
+        go (suc (suc (suc zero))) i ok hk hi =
+            let z : overFrom 3 i ≡ false = rw (over-last e l inside i hi) in
+            p₃ .bits i hi ∙ sym (ap (λ (t : Bool). t || underFrom 2 i) z) ∙ middle-word 3 i hi 2 refl
+        go (suc (suc (suc (suc k)))) i ok hk hi = absurd (omega arith)
 
 -- as the code puts them together
-module _ (e l n : ℕ) (he : e < 4) where
+module _ (e l n : ℕ) (he : e < 4) (inside : Inside l) where
   abbrev over : ℕ → ℕ → Bool
   over d i = overAt e l d i && bit n (6 * d + leftOf e i)
 
   abbrev below : ℕ → ℕ → Bool
   below d i = underAt e l d i && bit n (6 * d + leftOf e i)
 
-  pub older-from : (u₀ u₁ u₂ u₃ v₀ v₁ v₂ v₃ : ℕ) → Passing (over 0) u₀ → Passing (over 1) u₁ → Passing (below 0) v₀ → Passing (over 2) u₂ →
-      Passing (below 1) v₁ → Passing (over 3) u₃ → Passing (below 2) v₂ → Passing (below 3) v₃ → (r : ℕ) → r < 120 →
-      within (record { first = u₀; second = bitOr u₁ v₀; third = bitOr u₂ v₁; fourth = bitOr u₃ v₂; fifth = v₃ }) r ≡ comes 5 (4 - e) l n r
-  older-from u₀ u₁ u₂ u₃ v₀ v₁ v₂ v₃ a₀ a₁ b₀ a₂ b₁ a₃ b₂ b₃ =
-      older-back e l he n (record { first = u₀; second = bitOr u₁ v₀; third = bitOr u₂ v₁; fourth = bitOr u₃ v₂; fifth = v₃ }) a₀
-      (passing-or (over 1) (below 0) u₁ v₀ a₁ b₀) (passing-or (over 2) (below 1) u₂ v₁ a₂ b₁) (passing-or (over 3) (below 2) u₃ v₂ a₃ b₂) b₃
+  pub older-from : (u₁ u₂ v₁ v₂ : ℕ) → Passing (over 1) u₁ → Passing (over 2) u₂ → Passing (below 1) v₁ → Passing (below 2) v₂ →
+      (r : ℕ) → 24 ≤ r → r < 96 → within (record { second = u₁; third = bitOr u₂ v₁; fourth = v₂ }) r ≡ comes 5 (4 - e) l n r
+  older-from u₁ u₂ v₁ v₂ a₁ a₂ b₁ b₂ =
+      older-back e l he n (record { second = u₁; third = bitOr u₂ v₁; fourth = v₂ }) inside a₁ (passing-or (over 2) (below 1) u₂ v₁ a₂ b₁) b₂
 
--- five words, one by one
-pub nth-all : (f : Five) (g : ℕ → ℕ) → f .first ≡ g 0 → f .second ≡ g 1 → f .third ≡ g 2 → f .fourth ≡ g 3 → f .fifth ≡ g 4 → (k : ℕ) →
-    k < 5 → nth f k ≡ g k
+-- three words, one by one
+pub nth-all : (f : Five) (g : ℕ → ℕ) → f .second ≡ g 1 → f .third ≡ g 2 → f .fourth ≡ g 3 → (k : ℕ) → 1 ≤ k → k < 4 → nth f k ≡ g k
 unfolding nth
-nth-all f g a b c d e zero h = a
-nth-all f g a b c d e (suc zero) h = b
-nth-all f g a b c d e (suc (suc zero)) h = c
-nth-all f g a b c d e (suc (suc (suc zero))) h = d
-nth-all f g a b c d e (suc (suc (suc (suc zero)))) h = e
-nth-all f g a b c d e (suc (suc (suc (suc (suc k))))) h = absurd (omega arith)
+nth-all f g b c d zero l h = absurd (omega arith)
+nth-all f g b c d (suc zero) l h = b
+nth-all f g b c d (suc (suc zero)) l h = c
+nth-all f g b c d (suc (suc (suc zero))) l h = d
+nth-all f g b c d (suc (suc (suc (suc k)))) l h = absurd (omega arith)
 
--- as the code has the five words
+-- as the code has the three words
 module _ (l : ℕ) (f : Five) where
-  pub youngest-words : (a b c d e : ℕ) → ((i : ℕ) → bit a i ≡ bit l 0 && bit (f .first) i) → ((i : ℕ) → bit b i ≡ bit l 1 && bit (f .second) i) →
-      ((i : ℕ) → bit c i ≡ bit l 2 && bit (f .third) i) → ((i : ℕ) → bit d i ≡ bit l 3 && bit (f .fourth) i) →
-      ((i : ℕ) → bit e i ≡ bit l 4 && bit (f .fifth) i) → Gone 5 0 l (within f) (orFive a b c d e % 16777216)
+  pub youngest-words : (b c d : ℕ) → ((i : ℕ) → bit b i ≡ bit l 1 && bit (f .second) i) → ((i : ℕ) → bit c i ≡ bit l 2 && bit (f .third) i) →
+      ((i : ℕ) → bit d i ≡ bit l 3 && bit (f .fourth) i) → Gone 5 0 l (within f) (orThree b c d % 16777216)
   unfolding nth
-  youngest-words a b c d e ha hb hc hd he = youngest-gone l f a b c d e (orFive a b c d e % 16777216) ha hb hc hd he refl
+  youngest-words b c d hb hc hd = youngest-gone l f b c d (orThree b c d % 16777216) hb hc hd refl
 
-  pub youngest-from : (n : ℕ) → ((i : ℕ) → bit (f .first) i ≡ bit l 0 && bit n i) → ((i : ℕ) → bit (f .second) i ≡ bit l 1 && bit n i) →
-      ((i : ℕ) → bit (f .third) i ≡ bit l 2 && bit n i) → ((i : ℕ) → bit (f .fourth) i ≡ bit l 3 && bit n i) →
-      ((i : ℕ) → bit (f .fifth) i ≡ bit l 4 && bit n i) → (r : ℕ) → r < 120 → within f r ≡ comes 5 0 l n r
+  pub youngest-from : (n : ℕ) → ((i : ℕ) → bit (f .second) i ≡ bit l 1 && bit n i) → ((i : ℕ) → bit (f .third) i ≡ bit l 2 && bit n i) →
+      ((i : ℕ) → bit (f .fourth) i ≡ bit l 3 && bit n i) → (r : ℕ) → 24 ≤ r → r < 96 → within f r ≡ comes 5 0 l n r
   unfolding nth
-  youngest-from n ha hb hc hd he = youngest-back l f n at
+  youngest-from n hb hc hd = youngest-back l f n at
     where
-      at : (k i : ℕ) → k < 5 → bit (nth f k) i ≡ bit l k && bit n i
-      at zero i h = ha i
-      at (suc zero) i h = hb i
-      at (suc (suc zero)) i h = hc i
-      at (suc (suc (suc zero))) i h = hd i
-      at (suc (suc (suc (suc zero)))) i h = he i
-      at (suc (suc (suc (suc (suc k))))) i h = absurd (omega arith)
+      at : (k i : ℕ) → 1 ≤ k → k < 4 → bit (nth f k) i ≡ bit l k && bit n i
+      at zero i o h = absurd (omega arith)
+      at (suc zero) i o h = hb i
+      at (suc (suc zero)) i o h = hc i
+      at (suc (suc (suc zero))) i o h = hd i
+      at (suc (suc (suc (suc k)))) i o h = absurd (omega arith)
 
-  pub older-words : (e a b c d : ℕ) → e < 4 → Piece e l 0 (f .first) (f .second) a → Piece e l 1 (f .second) (f .third) b →
-      Piece e l 2 (f .third) (f .fourth) c → Piece e l 3 (f .fourth) (f .fifth) d →
-      Gone 5 (4 - e) l (within f) (((d * 64 + c) * 64 + b) * 64 + a)
+  pub older-words : (e b c : ℕ) → e < 4 → Inside l → Piece e l 1 (f .second) (f .third) b → Piece e l 2 (f .third) (f .fourth) c →
+      Gone 5 (4 - e) l (within f) ((c * 64 + b) * 64)
   unfolding nth
-  older-words e a b c d he pa pb pc pd =
-      older-gone e l he f q pieces (((d * 64 + c) * 64 + b) * 64 + a)
-      (omega (arith, pa .left .below, pb .left .below, pc .left .below, pd .left .below))
-      (whole-bit a b c d (pa .left .below) (pb .left .below) (pc .left .below) q refl refl refl refl)
+  older-words e b c he inside pb pc =
+      let v : (c * 64 + b) * 64 ≡ ((0 * 64 + c) * 64 + b) * 64 + 0 = omega arith in
+      rw v
+      (older-gone e l he f q pieces (((0 * 64 + c) * 64 + b) * 64 + 0) (omega (arith, pb .left .below, pc .left .below))
+      (whole-bit 0 b c 0 (omega arith) (pb .left .below) (pc .left .below) q refl refl refl refl))
     where
       q : ℕ → ℕ
-      q zero = a
+      q zero = 0
       q (suc zero) = b
       q (suc (suc zero)) = c
-      q (suc (suc (suc k))) = d
+      q (suc (suc (suc k))) = 0
 
       pieces : (k : ℕ) → k < 4 → Piece e l k (nth f k) (nth f (suc k)) (q k)
-      pieces zero h = pa
+      pieces zero h = first-piece e l inside (f .second)
       pieces (suc zero) h = pb
       pieces (suc (suc zero)) h = pc
-      pieces (suc (suc (suc zero))) h = pd
+      pieces (suc (suc (suc zero))) h = last-piece e l inside (f .fourth)
       pieces (suc (suc (suc (suc k)))) h = absurd (omega arith)

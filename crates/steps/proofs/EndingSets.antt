@@ -7,8 +7,8 @@ use mathlib.Core.Option.{some}
 use Prim.Native.Nat.{ℕ, zero, suc, _+_, _-_, _*_, _/_, _%_, _≤_, _<_}
 use native.Mathlib.Omega.{arith}
 use lib.Bits.{bitAnd}
-use lib.Dec.{eqb, leb, ltb}
-use borrow.Author.Tests.{eqb-true, eqb-false, ltb-true, ltb-false, leb-true, leb-false}
+use lib.Dec.{eqb}
+use borrow.Author.Tests.{eqb-true, eqb-false, eq-eqb}
 use Rattle.rules.specs.Street.{fits}
 use Rattle.steps.specs.declared.rank.Stop.{Stop}
 use Rattle.steps.specs.Plan.{step}
@@ -172,47 +172,38 @@ first-slot s g y m =
     marked-bit s g y (held-few y (omega arith)) ∙ ap₂ (λ (k i : ℕ). bit (wordAt s g k) i) q d
 
 -- one word alone
-pub written-anded : (s : List ℕ) (g k m : ℕ) (u : List ℕ) → Written s g k (bitAnd (wordAt s g k) m) u → Anded s g (λ j. m) k (suc k) u
+pub written-anded : (s : List ℕ) (g k m : ℕ) (u : List ℕ) → Written s g k (bitAnd (wordAt s g k) m) u → Anded s g (λ j. m) (λ j. eqb j k) u
 written-anded s g k m u w =
     record {
       long = w .long;
-      others = λ h j l f. w .others h j l (λ e d. f e (omega arith) (omega arith));
-      own = λ j l h. let e : j ≡ k = omega arith in rw e (w .own);
+      others = λ h j l f. w .others h j l (λ e d. f e (eq-eqb j k d));
+      own = λ j i. rw (eqb-true j k i) (w .own);
     }
 
 -- marks whose words are cut down
-module _ (s : List ℕ) (g : ℕ) (m : ℕ → ℕ) (from to : ℕ) (u : List ℕ) (c : Anded s g m from to u) where
+module _ (s : List ℕ) (g : ℕ) (m : ℕ → ℕ) (K : ℕ → Bool) (u : List ℕ) (c : Anded s g m K u) where
   anded-elsewhere : (h x : ℕ) → x < ranks → (h ≡ g → ⊥) → marked u h x ≡ marked s h x
   anded-elsewhere h x l f =
-      marked-same s u h x (λ d. ap (λ (v : ℕ). bit v (x % 24)) (c .others h (slot x) (slot-below x d) (λ e i j. f e)))
+      marked-same s u h x (λ d. ap (λ (v : ℕ). bit v (x % 24)) (c .others h (slot x) (slot-below x d) (λ e i. f e)))
 
-  anded-bit : (x : ℕ) → held x ≡ true → from ≤ slot x → slot x < to → marked u g x ≡ marked s g x && bit (m (slot x)) (x % 24)
-  anded-bit x h i j =
-      marked-bit u g x h ∙ ap (λ (v : ℕ). bit v (x % 24)) (c .own (slot x) i j) ∙ bit-and (wordAt s g (slot x)) (m (slot x)) (x % 24) ∙
+  anded-bit : (x : ℕ) → held x ≡ true → K (slot x) ≡ true → marked u g x ≡ marked s g x && bit (m (slot x)) (x % 24)
+  anded-bit x h i =
+      marked-bit u g x h ∙ ap (λ (v : ℕ). bit v (x % 24)) (c .own (slot x) i) ∙ bit-and (wordAt s g (slot x)) (m (slot x)) (x % 24) ∙
       ap (λ (v : Bool). v && bit (m (slot x)) (x % 24)) (sym (marked-bit s g x h))
 
-  anded-own : (x : ℕ) → marked s g x ≡ true → from ≤ slot x → slot x < to → marked u g x ≡ bit (m (slot x)) (x % 24)
-  anded-own x e i j = anded-bit x (marked-held s g x e) i j ∙ ap (λ (v : Bool). v && bit (m (slot x)) (x % 24)) e
+  anded-own : (x : ℕ) → marked s g x ≡ true → K (slot x) ≡ true → marked u g x ≡ bit (m (slot x)) (x % 24)
+  anded-own x e i = anded-bit x (marked-held s g x e) i ∙ ap (λ (v : Bool). v && bit (m (slot x)) (x % 24)) e
 
   anded-was : (x : ℕ) → marked u g x ≡ true → marked s g x ≡ true
-  anded-was x e = go (leb from (slot x)) (ltb (slot x) to) refl refl
+  anded-was x e = go (K (slot x)) refl
     where
-      h : held x ≡ true
-      h = marked-held u g x e
-
-      same : (from ≤ slot x → slot x < to → ⊥) → marked s g x ≡ true
-      same f =
-          sym (marked-same s u g x (λ d. ap (λ (v : ℕ). bit v (x % 24)) (c .others g (slot x) (slot-below x d) (λ q i j. f i j)))) ∙ e
-
-      go : (p q : Bool) → leb from (slot x) ≡ p → ltb (slot x) to ≡ q → marked s g x ≡ true
-      go true true ep eq =
-          and-both (marked s g x) (bit (m (slot x)) (x % 24))
-          (sym (anded-bit x h (leb-true from (slot x) ep) (ltb-true (slot x) to eq)) ∙ e) .0
-      go true false ep eq = same (λ i j. omega (arith, ltb-false (slot x) to eq))
-      go false q ep eq = same (λ i j. omega (arith, leb-false from (slot x) ep))
+      go : (p : Bool) → K (slot x) ≡ p → marked s g x ≡ true
+      go true q = and-both (marked s g x) (bit (m (slot x)) (x % 24)) (sym (anded-bit x (marked-held u g x e) q) ∙ e) .0
+      go false q =
+          sym (marked-same s u g x (λ d. ap (λ (v : ℕ). bit v (x % 24)) (c .others g (slot x) (slot-below x d) (λ z i. not-both q i)))) ∙ e
 
   -- the marks that are left are those of P
-  pub anded-loses : (P : ℕ → Type 0) → ((x : ℕ) → x < ranks → marked s g x ≡ true → (from ≤ slot x) × (slot x < to)) →
+  pub anded-loses : (P : ℕ → Type 0) → ((x : ℕ) → x < ranks → marked s g x ≡ true → K (slot x) ≡ true) →
       ((x : ℕ) → x < ranks → marked s g x ≡ true → bit (m (slot x)) (x % 24) ≡ true → P x) →
       ((x : ℕ) → x < ranks → marked s g x ≡ true → P x → bit (m (slot x)) (x % 24) ≡ true) → Loses s g P u
   anded-loses P here to-P of-P =
@@ -225,7 +216,7 @@ module _ (s : List ℕ) (g : ℕ) (m : ℕ → ℕ) (from to : ℕ) (u : List �
       }
     where
       own : (x : ℕ) → x < ranks → marked s g x ≡ true → marked u g x ≡ bit (m (slot x)) (x % 24)
-      own x d e = anded-own x e (here x d e .0) (here x d e .1)
+      own x d e = anded-own x e (here x d e)
 
 -- at most five nets are open: a rank leads on exactly where it leaves one of the next gap's slot 0
 module _ (t : Stop) (l : ℕ) (sound : Sound t) (ends : t .kind ≡ 2) (legal : Legal (t .ku) (t .kl) (t .count) l) (few : t .count ≤ 5)
@@ -251,12 +242,12 @@ module _ (t : Stop) (l : ℕ) (sound : Sound t) (ends : t .kind ≡ 2) (legal : 
       and-true (bit l (atOf (t .age) (t .count) x)) (bit (wordAt s (suc g) 0) (lessOf (t .age) (t .count) x)) i
       (rw e (sym (first-slot s (suc g) (o .next) m) ∙ o .kept))
 
-  pub comes-loses : (m : ℕ → ℕ) (from to : ℕ) (u : List ℕ) → ((x : ℕ) → x < ranks → marked s g x ≡ true → x < fact (t .count)) →
-      ((x : ℕ) → x < fact (t .count) → (from ≤ slot x) × (slot x < to) × (bit (m (slot x)) (x % 24) ≡ passes x)) →
-      Anded s g m from to u → Loses s g (Onward t s (suc g)) u
-  comes-loses m from to u f k c =
-      anded-loses s g m from to u c (Onward t s (suc g)) (λ x d e. (k x (f x d e) .0, k x (f x d e) .1))
-      (λ x d e p. comes-onward x (f x d e) (sym (k x (f x d e) .2) ∙ p)) (λ x d e o. k x (f x d e) .2 ∙ onward-comes x (f x d e) o)
+  pub comes-loses : (m : ℕ → ℕ) (K : ℕ → Bool) (u : List ℕ) → ((x : ℕ) → x < ranks → marked s g x ≡ true → x < fact (t .count)) →
+      ((x : ℕ) → x < ranks → marked s g x ≡ true → (K (slot x) ≡ true) × (bit (m (slot x)) (x % 24) ≡ passes x)) →
+      Anded s g m K u → Loses s g (Onward t s (suc g)) u
+  comes-loses m K u f k c =
+      anded-loses s g m K u c (Onward t s (suc g)) (λ x d e. k x d e .0) (λ x d e p. comes-onward x (f x d e) (sym (k x d e .1) ∙ p))
+      (λ x d e o. k x d e .1 ∙ onward-comes x (f x d e) o)
 
 -- the same of a set that is told by other tests
 pub gone-same : (b a l : ℕ) (P Q : ℕ → Bool) (n : ℕ) → ((r : ℕ) → r < fact b → P r ≡ Q r) → Gone b a l P n → Gone b a l Q n
@@ -302,12 +293,13 @@ pub few-loses : (t : Stop) (l : ℕ) → Sound t → t .kind ≡ 2 → Legal (t 
     ((r : ℕ) → r < fact (t .count) → bit z r ≡ comes (t .count) (t .age) l n r) → (u : List ℕ) →
     Written s g 0 (bitAnd (wordAt s g 0) z) u → Loses s g (Onward t s (suc g)) u
 few-loses t l d ends legal few s g f n z q k u w =
-    comes-loses t l d ends legal (omega arith) s g (λ j. z) 0 1 u f
-    (λ x h.
+    comes-loses t l d ends legal (omega arith) s g (λ j. z) (λ j. eqb j 0) u f
+    (λ x b i.
+    let h = f x b i in
     let m : x < 24 = omega (arith, fact-four (t .count) few) in
     let v : x % 24 ≡ x = omega arith in
     let e = slot-few x (omega arith) in
-    (omega arith, omega arith, rw (v, ← q) (k x h))) (written-anded s g 0 z u w)
+    (eq-eqb (slot x) 0 (omega arith), rw (v, ← q) (k x h))) (written-anded s g 0 z u w)
 
 -- the word before a node as the code reads it
 pub before-gap : (s : List ℕ) (g h k w : ℕ) → g ≡ suc h → w ≡ wordAt s h k → w ≡ wordBefore s g k

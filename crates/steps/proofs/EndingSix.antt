@@ -19,7 +19,7 @@ use Rattle.steps.specs.Sets.{slot, wordAt, bit, marked, source}
 use Rattle.steps.specs.Stops.{Sound}
 use Rattle.steps.specs.Masks.{Sources}
 use Rattle.steps.specs.Leading.{Leads, Reached, Onward}
-use Rattle.steps.specs.Four.{wordBefore, Gone, comes, nth, within, SixLeft, SixBack}
+use Rattle.steps.specs.Four.{wordBefore, Gone, comes, nth, within, SixLeft, SixBack, Inside}
 use Rattle.steps.proofs.Ranks.{at-youngest, less-youngest, at-older, less-older, less-lt, under-above, under-below, spared-above, spared-below}
 use Rattle.steps.proofs.Slots.{held-few, held-middle, slot-few, slot-middle}
 use Rattle.steps.proofs.Words.{bit-or, bit-zero, bit-power, bit-power-other}
@@ -27,6 +27,7 @@ use Rattle.steps.proofs.Hops.{fits-fits, fitting, hop-ends}
 use Rattle.steps.proofs.Bits.{not-both, marked-bit}
 use Rattle.steps.proofs.FourSets.{either, or-first, or-second, and-both, and-true}
 use Rattle.steps.proofs.EndingSets.{word-source, ends-made}
+use Rattle.steps.proofs.EndingFive.{nth-inner}
 
 -- the two places in the middle
 module _ (ku kl : ℕ) (hu : ku ≤ 3) (hl : kl ≤ 3) (p : ℕ) where
@@ -104,6 +105,9 @@ only-third p e = go (eqb p 2) refl
 pub third-only : (p : ℕ) → p ≡ 2 → bit 4 p ≡ true
 third-only p e = rw e (bit-power 2)
 
+pub third-inside : Inside 4
+third-inside = record { top = bit-power-other 2 0 (λ e. omega arith); below = omega arith }
+
 -- a stop with six nets open at which one ends
 module _ (t : Stop) (ok : Sound t) (ends : t .kind ≡ 2) (six : t .count ≡ 6) where
   six-leads : (r x : ℕ) → 6 ≤ t .ku + t .kl → 2 ≤ atOf (t .age) 6 r → atOf (t .age) 6 r ≤ 3 → lessOf (t .age) 6 r ≡ x → Leads t r x
@@ -168,23 +172,25 @@ module _ (s : List ℕ) (g : ℕ) where
       let d : (360 + x) % 24 ≡ x % 24 = omega arith in
       word-source s g (360 + x) (held-middle (360 + x) (omega arith) (omega arith)) ∙ ap₂ (λ (k i : ℕ). bit (wordBefore s g k) i) v d
 
-  module _ (f : Five) (words : (j : ℕ) → j < 5 → nth f j ≡ bitOr (wordBefore s g (5 + j)) (wordBefore s g (10 + j))) where
-    within-either : (x : ℕ) → x < 120 → within f x ≡ source s g (240 + x) || source s g (360 + x)
-    within-either x h =
-        ap (λ (v : ℕ). bit v (x % 24)) (words (x / 24) (omega arith)) ∙
+  module _ (f : Five) (words : (j : ℕ) → 1 ≤ j → j < 4 → nth f j ≡ bitOr (wordBefore s g (5 + j)) (wordBefore s g (10 + j))) where
+    within-either : (x : ℕ) → 24 ≤ x → x < 96 → within f x ≡ source s g (240 + x) || source s g (360 + x)
+    within-either x o h =
+        ap (λ (v : ℕ). bit v (x % 24)) (words (x / 24) (omega arith) (omega arith)) ∙
         bit-or (wordBefore s g (5 + x / 24)) (wordBefore s g (10 + x / 24)) (x % 24) ∙
-        ap₂ _||_ (sym (source-two x h)) (sym (source-three x h))
+        ap₂ _||_ (sym (source-two x (omega arith))) (sym (source-three x (omega arith)))
 
     within-source : (x : ℕ) → x < 120 → within f x ≡ true → (q : ℕ) × (2 ≤ q) × (q < 4) × (source s g (120 * q + x) ≡ true)
-    within-source x h e = go (either (source s g (240 + x)) (source s g (360 + x)) (sym (within-either x h) ∙ e))
+    within-source x h e =
+        let (a, b) = nth-inner f (x / 24) (x % 24) e in
+        go (either (source s g (240 + x)) (source s g (360 + x)) (sym (within-either x (omega arith) (omega arith)) ∙ e))
       where
         go : (source s g (240 + x) ≡ true) ⊎ (source s g (360 + x) ≡ true) →
             (q : ℕ) × (2 ≤ q) × (q < 4) × (source s g (120 * q + x) ≡ true)
         go (inl i) = (2, omega arith, omega arith, i)
         go (inr i) = (3, omega arith, omega arith, i)
 
-    source-within : (q x : ℕ) → 2 ≤ q → q < 4 → x < 120 → source s g (120 * q + x) ≡ true → within f x ≡ true
-    source-within q x a b h e = within-either x h ∙ go (eqb q 2) refl
+    source-within : (q x : ℕ) → 2 ≤ q → q < 4 → 24 ≤ x → x < 96 → source s g (120 * q + x) ≡ true → within f x ≡ true
+    source-within q x a b o h e = within-either x o h ∙ go (eqb q 2) refl
       where
         go : (t : Bool) → eqb q 2 ≡ t → source s g (240 + x) || source s g (360 + x) ≡ true
         go true d =
@@ -196,12 +202,15 @@ module _ (s : List ℕ) (g : ℕ) where
 
 -- a rank before the node, as the youngest's place and the rank of the others
 module _ (t : Stop) (six : t .count ≡ 6) (s : List ℕ) (g : ℕ) (from : Sources t s g) (r : ℕ) (e : source s g r ≡ true) where
+  pub source-inner : (24 ≤ r % 120) × (r % 120 < 96)
+  source-inner = from r e .inner (omega arith)
+
   pub source-split : (2 ≤ r / 120) × (r / 120 < 4) × (r % 120 < 120) × (120 * (r / 120) + r % 120 ≡ r)
   source-split =
       let (a, b) = from r e .middle six in
       (omega arith, omega arith, omega arith, omega arith)
 
--- five words of which the third alone has orders
+-- orders that all have the youngest third
 abbrev pub Third : Five → ℕ → Type 0
 Third f n = (k : ℕ) → nth f k ≡ pick (eqb k 2) n 0
 
@@ -238,7 +247,7 @@ module _ (t : Stop) (ok : Sound t) (ends : t .kind ≡ 2) (six : t .count ≡ 6)
       }
 
   module _ (from : Sources t s g) (room : 6 ≤ t .ku + t .kl) (f : Five)
-      (words : (j : ℕ) → j < 5 → nth f j ≡ bitOr (wordBefore s g (5 + j)) (wordBefore s g (10 + j))) where
+      (words : (j : ℕ) → 1 ≤ j → j < 4 → nth f j ≡ bitOr (wordBefore s g (5 + j)) (wordBefore s g (10 + j))) where
     reached : (q x y : ℕ) → 2 ≤ q → q < 4 → x < 120 → source s g (120 * q + x) ≡ true → Leads t (120 * q + x) y → Reached t s g y
     unfolding fact
     reached q x y a b h e m = record { rank = 120 * q + x; below = rw six (omega arith); from = e; leads = m }
@@ -257,8 +266,9 @@ module _ (t : Stop) (ok : Sound t) (ends : t .kind ≡ 2) (six : t .count ≡ 6)
             let (a, b, h, v) = source-split t six s g from r (p .from) in
             let d : source s g (120 * (r / 120) + r % 120) ≡ true = rw v (p .from) in
             let m : Leads t (120 * (r / 120) + r % 120) x = rw v (p .leads) in
+            let (lo, hi) = source-inner t six s g from r (p .from) in
             let e : r % 120 ≡ x = leads-first t ok ends six (r / 120) (r % 120) a b h z x m in
-            (rw e at h, rw e at (source-within s g f words (r / 120) (r % 120) a b h d))
+            (rw e at h, rw e at (source-within s g f words (r / 120) (r % 120) a b lo hi d))
 
     pub other-left : (c n : ℕ) (k : Five) → t .age ≡ suc c → Gone 5 c 4 (within f) n → Third k n → SixLeft t s g k
     unfolding fact
@@ -284,7 +294,8 @@ module _ (t : Stop) (ok : Sound t) (ends : t .kind ≡ 2) (six : t .count ≡ 6)
             let m : Leads t (120 * (r / 120) + r % 120) x = rw v (p .leads) in
             let (i, e) = leads-other t ok ends six (r / 120) (r % 120) a b h c z x m in
             let l = less-four c (r % 120) small h in
-            let w = source-within s g f words (r / 120) (r % 120) a b h d in
+            let (lo, hi) = source-inner t six s g from r (p .from) in
+            let w = source-within s g f words (r / 120) (r % 120) a b lo hi d in
             let y = o .full (r % 120) h w (third-only (atOf c 5 (r % 120)) i) in
             (omega arith, rw e at (third-full k n alone (lessOf c 5 (r % 120)) l y))
 
@@ -293,8 +304,8 @@ module _ (t : Stop) (ok : Sound t) (ends : t .kind ≡ 2) (six : t .count ≡ 6)
   pub none-back : (f : Five) → t .ku + t .kl < 6 → Third f 0 → SixBack t s g f
   none-back f h a =
       record {
-        sound = λ q x i j l e. absurd (no-orders f x a e);
-        full = λ q x i j l o. let (u, v, k, d) = leads-six t ok ends six (120 * q + x) (o .next) (o .leads) in absurd (omega arith);
+        sound = λ q x i j k l e. absurd (no-orders f x a e);
+        full = λ q x i j n l o. let (u, v, k, d) = leads-six t ok ends six (120 * q + x) (o .next) (o .leads) in absurd (omega arith);
       }
 
   mark-few : (k y x : ℕ) → k < 5 → y < 24 → x ≡ 24 * k + y → marked s (suc g) x ≡ bit (wordAt s (suc g) k) y
@@ -305,24 +316,24 @@ module _ (t : Stop) (ok : Sound t) (ends : t .kind ≡ 2) (six : t .count ≡ 6)
       marked-bit s (suc g) x (held-few x l) ∙ ap₂ (λ (j i : ℕ). bit (wordAt s (suc g) j) i) v d
 
   module _ (room : 6 ≤ t .ku + t .kl) (f : Five) where
-    pub first-back : t .age ≡ 0 → ((j : ℕ) → j < 5 → nth f j ≡ wordAt s (suc g) j) → SixBack t s g f
+    pub first-back : t .age ≡ 0 → ((j : ℕ) → 1 ≤ j → j < 4 → nth f j ≡ wordAt s (suc g) j) → SixBack t s g f
     first-back z words = record { sound = sound; full = full }
       where
-        same : (x : ℕ) → x < 120 → within f x ≡ marked s (suc g) x
-        same x h =
-            ap (λ (v : ℕ). bit v (x % 24)) (words (x / 24) (omega arith)) ∙
+        same : (x : ℕ) → 24 ≤ x → x < 96 → within f x ≡ marked s (suc g) x
+        same x l h =
+            ap (λ (v : ℕ). bit v (x % 24)) (words (x / 24) (omega arith) (omega arith)) ∙
             sym (mark-few (x / 24) (x % 24) x (omega arith) (omega arith) (omega arith))
 
-        sound : (q x : ℕ) → 2 ≤ q → q < 4 → x < 120 → within f x ≡ true → Onward t s (suc g) (120 * q + x)
-        sound q x a b h e =
-            record { next = x; within = omega arith; leads = first-leads t ok ends six q x a b h z room; kept = sym (same x h) ∙ e }
+        sound : (q x : ℕ) → 2 ≤ q → q < 4 → 24 ≤ x → x < 96 → within f x ≡ true → Onward t s (suc g) (120 * q + x)
+        sound q x a b l h e =
+            record { next = x; within = omega arith; leads = first-leads t ok ends six q x a b (omega arith) z room; kept = sym (same x l h) ∙ e }
 
-        full : (q x : ℕ) → 2 ≤ q → q < 4 → x < 120 → Onward t s (suc g) (120 * q + x) → within f x ≡ true
-        full q x a b h o =
-            let e : x ≡ o .next = leads-first t ok ends six q x a b h z (o .next) (o .leads) in
-            same x h ∙ rw e (o .kept)
+        full : (q x : ℕ) → 2 ≤ q → q < 4 → 24 ≤ x → x < 96 → Onward t s (suc g) (120 * q + x) → within f x ≡ true
+        full q x a b l h o =
+            let e : x ≡ o .next = leads-first t ok ends six q x a b (omega arith) z (o .next) (o .leads) in
+            same x l h ∙ rw e (o .kept)
 
-    pub other-back : (c n : ℕ) → t .age ≡ suc c → n ≡ wordAt s (suc g) 2 → ((x : ℕ) → x < 120 → within f x ≡ comes 5 c 4 n x) →
+    pub other-back : (c n : ℕ) → t .age ≡ suc c → n ≡ wordAt s (suc g) 2 → ((x : ℕ) → 24 ≤ x → x < 96 → within f x ≡ comes 5 c 4 n x) →
         SixBack t s g f
     other-back c n z w same = record { sound = sound; full = full }
       where
@@ -332,9 +343,10 @@ module _ (t : Stop) (ok : Sound t) (ends : t .kind ≡ 2) (six : t .count ≡ 6)
         mark : (x : ℕ) → x < 120 → marked s (suc g) (48 + lessOf c 5 x) ≡ bit n (lessOf c 5 x)
         mark x h = rw w (mark-few 2 (lessOf c 5 x) (48 + lessOf c 5 x) (omega arith) (less-four c x small h) (omega arith))
 
-        sound : (q x : ℕ) → 2 ≤ q → q < 4 → x < 120 → within f x ≡ true → Onward t s (suc g) (120 * q + x)
-        sound q x a b h e =
-            let (i, d) = and-both (bit 4 (atOf c 5 x)) (bit n (lessOf c 5 x)) (sym (same x h) ∙ e) in
+        sound : (q x : ℕ) → 2 ≤ q → q < 4 → 24 ≤ x → x < 96 → within f x ≡ true → Onward t s (suc g) (120 * q + x)
+        sound q x a b u v e =
+            let h : x < 120 = omega arith in
+            let (i, d) = and-both (bit 4 (atOf c 5 x)) (bit n (lessOf c 5 x)) (sym (same x u v) ∙ e) in
             let l = less-four c x small h in
             record {
               next = 48 + lessOf c 5 x;
@@ -343,14 +355,15 @@ module _ (t : Stop) (ok : Sound t) (ends : t .kind ≡ 2) (six : t .count ≡ 6)
               kept = mark x h ∙ d;
             }
 
-        full : (q x : ℕ) → 2 ≤ q → q < 4 → x < 120 → Onward t s (suc g) (120 * q + x) → within f x ≡ true
-        full q x a b h o =
+        full : (q x : ℕ) → 2 ≤ q → q < 4 → 24 ≤ x → x < 96 → Onward t s (suc g) (120 * q + x) → within f x ≡ true
+        full q x a b u v o =
+            let h : x < 120 = omega arith in
             let (p, e) = leads-other t ok ends six q x a b h c z (o .next) (o .leads) in
             let d : marked s (suc g) (48 + lessOf c 5 x) ≡ true = rw e (o .kept) in
-            same x h ∙ and-true (bit 4 (atOf c 5 x)) (bit n (lessOf c 5 x)) (third-only (atOf c 5 x) p) (sym (mark x h) ∙ d)
+            same x u v ∙ and-true (bit 4 (atOf c 5 x)) (bit n (lessOf c 5 x)) (third-only (atOf c 5 x) p) (sym (mark x h) ∙ d)
 
 -- the words that the code makes
-pub third-words : (n k : ℕ) → nth (record { first = 0; second = 0; third = n; fourth = 0; fifth = 0 }) k ≡ pick (eqb k 2) n 0
+pub third-words : (n k : ℕ) → nth (record { second = 0; third = n; fourth = 0 }) k ≡ pick (eqb k 2) n 0
 unfolding nth pick
 third-words n zero = refl
 third-words n (suc zero) = refl
@@ -359,13 +372,8 @@ third-words n (suc (suc (suc zero))) = refl
 third-words n (suc (suc (suc (suc k)))) = rw (ne-eqb (suc (suc (suc (suc k)))) 2 (λ e. omega arith))
 
 pub either-words : (x y : Five) (k : ℕ) →
-    nth (record {
-      first = bitOr (x .first) (y .first);
-      second = bitOr (x .second) (y .second);
-      third = bitOr (x .third) (y .third);
-      fourth = bitOr (x .fourth) (y .fourth);
-      fifth = bitOr (x .fifth) (y .fifth);
-    }) k ≡ bitOr (nth x k) (nth y k)
+    nth (record { second = bitOr (x .second) (y .second); third = bitOr (x .third) (y .third); fourth = bitOr (x .fourth) (y .fourth) }) k ≡
+    bitOr (nth x k) (nth y k)
 unfolding nth
 either-words x y zero = refl
 either-words x y (suc zero) = refl
@@ -374,14 +382,14 @@ either-words x y (suc (suc (suc zero))) = refl
 either-words x y (suc (suc (suc (suc k)))) = refl
 
 pub joined-words : (s : List ℕ) (g : ℕ) (x y f : Five) → ((k : ℕ) → nth f k ≡ bitOr (nth x k) (nth y k)) →
-    ((j : ℕ) → j < 5 → nth x j ≡ wordBefore s g (5 + j)) → ((j : ℕ) → j < 5 → nth y j ≡ wordBefore s g (10 + j)) → (j : ℕ) → j < 5 →
-    nth f j ≡ bitOr (wordBefore s g (5 + j)) (wordBefore s g (10 + j))
-joined-words s g x y f e a b j h = e j ∙ ap₂ bitOr (a j h) (b j h)
+    ((j : ℕ) → 1 ≤ j → j < 4 → nth x j ≡ wordBefore s g (5 + j)) → ((j : ℕ) → 1 ≤ j → j < 4 → nth y j ≡ wordBefore s g (10 + j)) → (j : ℕ) →
+    1 ≤ j → j < 4 → nth f j ≡ bitOr (wordBefore s g (5 + j)) (wordBefore s g (10 + j))
+joined-words s g x y f e a b j l h = e j ∙ ap₂ bitOr (a j l h) (b j l h)
 
-pub next-words : (s : List ℕ) (g : ℕ) (f : Five) → ((j : ℕ) → j < 5 → nth f j ≡ wordBefore s (g + 2) (0 + j)) → (j : ℕ) → j < 5 →
+pub next-words : (s : List ℕ) (g : ℕ) (f : Five) → ((j : ℕ) → 1 ≤ j → j < 4 → nth f j ≡ wordBefore s (g + 2) (0 + j)) → (j : ℕ) → 1 ≤ j → j < 4 →
     nth f j ≡ wordAt s (suc g) j
 unfolding wordBefore
-next-words s g f h j l =
+next-words s g f h j o l =
     let d : g + 2 ≡ suc (suc g) = omega arith in
     let k : 0 + j ≡ j = omega arith in
-    h j l ∙ ap₂ (λ (a b : ℕ). wordBefore s a b) d k
+    h j o l ∙ ap₂ (λ (a b : ℕ). wordBefore s a b) d k

@@ -24,7 +24,7 @@ use Rattle.steps.proofs.Words.{bit-and, bit-or, bit-zero, bit-high}
 use Rattle.steps.proofs.FourSets.{either, or-first, or-second}
 use Rattle.steps.proofs.OpeningMarks.{seat, bare-test}
 use Rattle.steps.proofs.EndingSets.{put-bare}
-use Rattle.steps.proofs.Masks.{same-test, and-all, between-in, between-out, between-under, between-over, alike, alike-same}
+use Rattle.steps.proofs.Masks.{same-test, between-in, between-out, between-under, between-over, alike, alike-same}
 use Rattle.steps.proofs.Masks.{legal-room, few-stands-at, five-stands-at, six-stands-at}
 use Rattle.steps.proofs.Bits.{not-both, marked-bit, marked-held, marked-same, source-gap}
 use Rattle.steps.proofs.Hops.{both, fits-fits, hop-met, hop-meets}

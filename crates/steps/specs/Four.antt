@@ -2,7 +2,7 @@
 --
 -- A net is named by its elders here, how many of the four are older: its age is 3 less that.
 use mathlib.Core.Path.{_≡_}
-use mathlib.Core.Bool.{Bool, true, _&&_, _||_}
+use mathlib.Core.Bool.{Bool, true, false, _&&_, _||_}
 use mathlib.Core.List.{List}
 use Prim.Native.Nat.{ℕ, zero, suc, _+_, _-_, _*_, _/_, _%_, _^_, _≤_, _<_}
 use lib.ListN.{length, getD}
@@ -98,23 +98,23 @@ pub record Gone (b a l : ℕ) (P : ℕ → Bool) (n : ℕ) : Type 0 where
 abbrev pub comes : (b a l n r : ℕ) → Bool
 comes b a l n r = bit l (atOf a b r) && bit n (lessOf a b r)
 
--- u is s with the word w j in each slot j of gap g, from one on and below another
-pub record Changed (s : List ℕ) (g : ℕ) (w : ℕ → ℕ) (from to : ℕ) (u : List ℕ) : Type 0 where
+-- u is s with the word w j in each slot j of gap g that K has
+pub record Changed (s : List ℕ) (g : ℕ) (w : ℕ → ℕ) (K : ℕ → Bool) (u : List ℕ) : Type 0 where
   pub long : length u ≡ length s
-  pub others : (h j : ℕ) → j < slots → (h ≡ g → from ≤ j → j < to → ⊥) → wordAt u h j ≡ wordAt s h j
-  pub own : (j : ℕ) → from ≤ j → j < to → wordAt u g j ≡ w j
+  pub others : (h j : ℕ) → j < slots → (h ≡ g → K j ≡ true → ⊥) → wordAt u h j ≡ wordAt s h j
+  pub own : (j : ℕ) → K j ≡ true → wordAt u g j ≡ w j
 
 -- u is s with only the bits of m j left there
-abbrev pub Anded : (s : List ℕ) (g : ℕ) (m : ℕ → ℕ) (from to : ℕ) (u : List ℕ) → Type 0
-Anded s g m from to u = Changed s g (λ j. bitAnd (wordAt s g j) (m j)) from to u
+abbrev pub Anded : (s : List ℕ) (g : ℕ) (m : ℕ → ℕ) (K : ℕ → Bool) (u : List ℕ) → Type 0
+Anded s g m K u = Changed s g (λ j. bitAnd (wordAt s g j) (m j)) K u
 
--- word k of five, and the rank r of five nets in them
+-- the word of the orders of five nets with the youngest at place k: it is at 1, 2 or 3. And the rank r of five nets in these words
 unfoldable pub nth : Five → ℕ → ℕ
-nth f zero = f .first
+nth f zero = 0
 nth f (suc zero) = f .second
 nth f (suc (suc zero)) = f .third
 nth f (suc (suc (suc zero))) = f .fourth
-nth f (suc (suc (suc (suc k)))) = f .fifth
+nth f (suc (suc (suc (suc k)))) = 0
 
 abbrev pub within : Five → ℕ → Bool
 within f r = bit (nth f (r / 24)) (r % 24)
@@ -137,16 +137,21 @@ pub record Piece (e l d x y n : ℕ) : Type 0 where
   pub bits : Passing (λ i. bit x i && overAt e l d i || bit y i && underAt e l d i) all
   pub left : Left e all n
 
--- the five words of the orders of five that an ending with six open leaves
+-- the words of the orders of five that an ending with six open leaves
 pub record SixLeft (t : Stop) (s : List ℕ) (g : ℕ) (f : Five) : Type 0 where
   pub sound : (x : ℕ) → x < 120 → within f x ≡ true → Reached t s g x
   pub full : (x : ℕ) → Reached t s g x → (x < 120) × (within f x ≡ true)
 
--- the five words of the orders of the five older nets from which, with the youngest in the middle, such an ending leads on
+-- the words of the orders of the five older nets from which, with the youngest in the middle, such an ending leads on
 pub record SixBack (t : Stop) (s : List ℕ) (g : ℕ) (f : Five) : Type 0 where
-  pub sound : (q x : ℕ) → 2 ≤ q → q < 4 → x < 120 → within f x ≡ true → Onward t s (suc g) (120 * q + x)
-  pub full : (q x : ℕ) → 2 ≤ q → q < 4 → x < 120 → Onward t s (suc g) (120 * q + x) → within f x ≡ true
+  pub sound : (q x : ℕ) → 2 ≤ q → q < 4 → 24 ≤ x → x < 96 → within f x ≡ true → Onward t s (suc g) (120 * q + x)
+  pub full : (q x : ℕ) → 2 ≤ q → q < 4 → 24 ≤ x → x < 96 → Onward t s (suc g) (120 * q + x) → within f x ≡ true
 
--- the five words have no order
+-- the words have no order
 abbrev pub none : Five → Bool
-none f = eqb (bitOr (bitOr (bitOr (f .first) (f .second)) (bitOr (f .third) (f .fourth))) (f .fifth) % 16777216) 0
+none f = eqb (bitOr (bitOr (f .second) (f .third)) (f .fourth) % 16777216) 0
+
+-- a net of five that stands at a place of l has one, two or three above it
+pub record Inside (l : ℕ) : Type 0 where
+  pub top : bit l 0 ≡ false
+  pub below : l < 16

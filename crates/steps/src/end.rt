@@ -19,16 +19,14 @@ ghost use Rattle.steps.specs.Ranks.{fact};
 ghost use Rattle.steps.specs.Sets.{stretch, slots, wordAt, bit, Written, Empty, Bare, Exactly, Loses};
 ghost use Rattle.steps.specs.Stops.{Sound};
 ghost use Rattle.steps.specs.Leading.{Reached, Onward};
-ghost use Rattle.steps.specs.Masks.{Sources};
-ghost use Rattle.steps.specs.Four.{Changed, SixLeft, SixBack, none, leftOf, Tables, wordBefore, Gone, comes, Anded, nth, within, overAt, underAt, Passing, Piece};
+ghost use Rattle.steps.specs.Masks.{between, Sources};
+ghost use Rattle.steps.specs.Four.{Changed, SixLeft, SixBack, none, leftOf, Tables, wordBefore, Gone, comes, Anded, nth, within, overAt, underAt, Passing, Piece, Inside};
 
-// Five words, one for each place of the youngest of five nets.
+// Orders of five nets, a word of them for each place of the youngest: it has one, two or three above it.
 pub struct Five {
-    pub first: u32,
     pub second: u32,
     pub third: u32,
     pub fourth: u32,
-    pub fifth: u32,
 }
 
 // Marks in gap g, which is empty, every rank that node g, an E, leads to, and tells whether there is none.
@@ -128,6 +126,7 @@ fn few_back(tables: &[u32], b: usize, a: usize, l: u32, n: u32) -> u32
 fn end_five(work: &mut [u8], g: usize, stop: Stop, tables: &[u32]) -> bool
     requires { ⌜ Sound stop × (stop .kind ≡ 2) × (stretch * suc g ≤ length (now work)) ⌝ }
     requires { ⌜ Empty (now work) g ⌝ }
+    requires { ⌜ Sources stop (now work) g ⌝ }
     requires { ⌜ Tables (now tables) × (stop .count ≡ 5) ⌝ }
     ensures { λ _. ⌜ Exactly (now (work .entry)) g (Reached stop (now (work .entry)) g) (now (work .exit)) ⌝ }
     ensures { λ r. ⌜ Bare (now (work .exit)) g r ⌝ }
@@ -227,11 +226,9 @@ fn third_alone(n: u32) -> Five
     ensures { λ f. ⌜ ((k : ℕ) → nth f k ≡ pick (eqb k 2) n 0) ⌝ }
 {
     Five {
-        first: 0,
         second: 0,
         third: n,
         fourth: 0,
-        fifth: 0,
     }
 }
 
@@ -240,17 +237,15 @@ fn either(x: Five, y: Five) -> Five
     ensures { λ f. ⌜ ((k : ℕ) → nth f k ≡ bitOr (nth x k) (nth y k)) ⌝ }
 {
     Five {
-        first: x.first | y.first,
         second: x.second | y.second,
         third: x.third | y.third,
         fourth: x.fourth | y.fourth,
-        fifth: x.fifth | y.fifth,
     }
 }
 
-// The orders of four left of those of five words where the net of age a of five ends at a place of l.
+// The orders of four left of those of five where the net of age a of five ends at a place of l.
 fn five_left(tables: &[u32], a: usize, l: u32, five: Five) -> u32
-    requires { ⌜ Tables (now tables) × (a < 5) × (l < 32) ⌝ }
+    requires { ⌜ Tables (now tables) × (a < 5) × Inside l ⌝ }
     ensures { λ n. ⌜ Gone 5 a l (within five) n ⌝ }
 {
     if a == 0 {
@@ -263,21 +258,18 @@ fn five_left(tables: &[u32], a: usize, l: u32, five: Five) -> u32
 fn youngest_left(l: u32, five: Five) -> u32
     ensures { λ n. ⌜ Gone 5 0 l (within five) n ⌝ }
 {
-    let a = taken(l, 0, five.first) | taken(l, 1, five.second);
-    let b = taken(l, 2, five.third) | taken(l, 3, five.fourth);
-    (a | b | taken(l, 4, five.fifth)) % 16777216
+    let a = taken(l, 1, five.second) | taken(l, 2, five.third);
+    (a | taken(l, 3, five.fourth)) % 16777216
 }
 
-// The same where it has e elders: the youngest is the youngest of the four that are left.
+// The same where it has e elders: the youngest is the youngest of the four that are left, and has one or two above it.
 fn older_left(tables: &[u32], e: usize, l: u32, five: Five) -> u32
-    requires { ⌜ Tables (now tables) × (e < 4) × (l < 32) ⌝ }
+    requires { ⌜ Tables (now tables) × (e < 4) × Inside l ⌝ }
     ensures { λ n. ⌜ Gone 5 (4 - e) l (within five) n ⌝ }
 {
-    let a = piece_left(tables, e, l, 0, five.first, five.second);
     let b = piece_left(tables, e, l, 1, five.second, five.third);
     let c = piece_left(tables, e, l, 2, five.third, five.fourth);
-    let d = piece_left(tables, e, l, 3, five.fourth, five.fifth);
-    ((d * 64 + c) * 64 + b) * 64 + a
+    (c * 64 + b) * 64
 }
 
 // The ranks of three left with the youngest at d: of x it was there and the net below, of y one lower and the net above.
@@ -308,16 +300,14 @@ fn under_at(tables: &[u32], e: usize, l: u32, d: usize) -> u32
 
 // The orders of five that leave one of n.
 fn five_back(tables: &[u32], a: usize, l: u32, n: u32) -> Five
-    requires { ⌜ Tables (now tables) × (a < 5) × (l < 32) ⌝ }
-    ensures { λ f. ⌜ ((r : ℕ) → r < 120 → within f r ≡ comes 5 a l n r) ⌝ }
+    requires { ⌜ Tables (now tables) × (a < 5) × Inside l ⌝ }
+    ensures { λ f. ⌜ ((r : ℕ) → 24 ≤ r → r < 96 → within f r ≡ comes 5 a l n r) ⌝ }
 {
     if a == 0 {
         return Five {
-            first: taken(l, 0, n),
             second: taken(l, 1, n),
             third: taken(l, 2, n),
             fourth: taken(l, 3, n),
-            fifth: taken(l, 4, n),
         };
     }
     older_back(tables, 4 - a, l, n)
@@ -325,15 +315,13 @@ fn five_back(tables: &[u32], a: usize, l: u32, n: u32) -> Five
 
 // The same where the net has e elders.
 fn older_back(tables: &[u32], e: usize, l: u32, n: u32) -> Five
-    requires { ⌜ Tables (now tables) × (e < 4) × (l < 32) ⌝ }
-    ensures { λ f. ⌜ ((r : ℕ) → r < 120 → within f r ≡ comes 5 (4 - e) l n r) ⌝ }
+    requires { ⌜ Tables (now tables) × (e < 4) × Inside l ⌝ }
+    ensures { λ f. ⌜ ((r : ℕ) → 24 ≤ r → r < 96 → within f r ≡ comes 5 (4 - e) l n r) ⌝ }
 {
     Five {
-        first: over_back(tables, e, l, 0, n),
-        second: over_back(tables, e, l, 1, n) | under_back(tables, e, l, 0, n),
+        second: over_back(tables, e, l, 1, n),
         third: over_back(tables, e, l, 2, n) | under_back(tables, e, l, 1, n),
-        fourth: over_back(tables, e, l, 3, n) | under_back(tables, e, l, 2, n),
-        fifth: under_back(tables, e, l, 3, n),
+        fourth: under_back(tables, e, l, 2, n),
     }
 }
 
@@ -355,45 +343,38 @@ fn under_back(tables: &[u32], e: usize, l: u32, d: usize, n: u32) -> u32
     z & back(tables, e, (n >> (6 * d)) % 64)
 }
 
-// The words before node g from slot k on.
+// The orders of five in the words before node g, of which slot k would be the one of the youngest on top.
 fn five_before(work: &[u8], g: usize, k: usize) -> Five
     requires { ⌜ (stretch * g ≤ length (now work)) × (k ≤ 10) ⌝ }
-    ensures { λ f. ⌜ ((j : ℕ) → j < 5 → nth f j ≡ wordBefore (now (work .entry)) g (k + j)) ⌝ }
+    ensures { λ f. ⌜ ((j : ℕ) → 1 ≤ j → j < 4 → nth f j ≡ wordBefore (now (work .entry)) g (k + j)) ⌝ }
 {
     Five {
-        first: before(work, g, k),
         second: before(work, g, k + 1),
         third: before(work, g, k + 2),
         fourth: before(work, g, k + 3),
-        fifth: before(work, g, k + 4),
     }
 }
 
-// Puts five words into the first slots of gap g, and tells whether they have no order.
+// Puts orders of five nets into gap g, and tells whether there is none.
 fn put_five(work: &mut [u8], g: usize, five: Five) -> bool
     requires { ⌜ stretch * suc g ≤ length (now work) ⌝ }
-    ensures { λ _. ⌜ Changed (now (work .entry)) g (nth five) 0 5 (now (work .exit)) ⌝ }
+    ensures { λ _. ⌜ Changed (now (work .entry)) g (nth five) (between 1 4) (now (work .exit)) ⌝ }
     ensures { λ r. ⌜ r ≡ none five ⌝ }
 {
-    put_word(work, g, 0, five.first);
     put_word(work, g, 1, five.second);
     put_word(work, g, 2, five.third);
     put_word(work, g, 3, five.fourth);
-    put_word(work, g, 4, five.fifth);
-    let low = (five.first | five.second) | (five.third | five.fourth);
-    (low | five.fifth) % 16777216 == 0
+    (five.second | five.third | five.fourth) % 16777216 == 0
 }
 
-// Leaves in five slots of gap g from slot k on only the bits of five words.
+// Leaves in gap g only these orders of five, in the words of which slot k would be the one of the youngest on top.
 fn keep_five(work: &mut [u8], g: usize, k: usize, five: Five)
     requires { ⌜ (stretch * suc g ≤ length (now work)) × (k ≤ 10) ⌝ }
-    ensures { λ _. ⌜ Anded (now (work .entry)) g (λ j. nth five (j - k)) k (k + 5) (now (work .exit)) ⌝ }
+    ensures { λ _. ⌜ Anded (now (work .entry)) g (λ j. nth five (j - k)) (between (k + 1) (k + 4)) (now (work .exit)) ⌝ }
 {
-    keep_word(work, g, k, five.first);
     keep_word(work, g, k + 1, five.second);
     keep_word(work, g, k + 2, five.third);
     keep_word(work, g, k + 3, five.fourth);
-    keep_word(work, g, k + 4, five.fifth);
 }
 
 // The word in slot k of the set before node g.

@@ -1,9 +1,9 @@
 -- `steps::end::five_back` meets its contract: the youngest ends, or another.
-use native.Mathlib.Omega.{arith}
 use mathlib.Core.Path.{_≡_}
 use Prim.Native.Nat.{_-_}
-use Rattle.steps.proofs.EndingFive.{youngest-from}
+use native.Mathlib.Omega.{arith}
 use borrow.Author.Needs.{needs}
+use Rattle.steps.proofs.EndingFive.{youngest-from}
 use Rattle.steps.proofs.end.five_back.Statement.{statement}
 use Rattle.steps.proofs.end.five_back.Tie as tie
 
@@ -16,17 +16,11 @@ taken-requires-2 c κs = search needs
 taken-requires-3 : tie.Need-taken-requires-3
 taken-requires-3 c κs = search needs
 
-taken-requires-4 : tie.Need-taken-requires-4
-taken-requires-4 c κs = search needs
-
-taken-requires-5 : tie.Need-taken-requires-5
-taken-requires-5 c κs = search needs
-
 returns : tie.Need-returns
 returns c =
-    let g = c .before .before .before .before .before .before .before .args in
+    let g = c .before .before .before .before .before .args in
     let e : g .a ≡ 0 = omega arith in
-    rw e (youngest-from (g .l) _ (g .n) (c .before .before .before .before .taken .ensures .0) (c .before .before .before .taken2 .ensures .0) (c .before .before .taken3 .ensures .0) (c .before .taken4 .ensures .0) (c .taken5 .ensures .0))
+    rw e (youngest-from (g .l) _ (g .n) (c .before .before .taken .ensures .0) (c .before .taken2 .ensures .0) (c .taken3 .ensures .0))
 
 sub-older-back : tie.Need-sub-older-back
 sub-older-back c = search needs
@@ -49,8 +43,6 @@ five-back-spec =
     taken-requires
     taken-requires-2
     taken-requires-3
-    taken-requires-4
-    taken-requires-5
     returns
     sub-older-back
     older-back-requires

@@ -2,7 +2,7 @@
 use native.Mathlib.Omega.{arith}
 use Prim.Native.Nat.{_-_}
 use Rattle.steps.proofs.EndingSets.{next-word}
-use Rattle.steps.proofs.EndingSix.{none-back, first-back, other-back, next-words}
+use Rattle.steps.proofs.EndingSix.{third-inside, none-back, first-back, other-back, next-words}
 use borrow.Author.Needs.{needs}
 use Rattle.steps.proofs.end.six_back.Statement.{statement}
 use Rattle.steps.proofs.end.six_back.Tie as tie
@@ -59,7 +59,7 @@ five-back-requires c κs =
     let h = start .pre in
     let z = c .before .if2 .left in
     let m = h .0 .0 .touched (omega arith) in
-    (h .1 .0, omega arith, omega arith)
+    (h .1 .0, omega arith, third-inside)
 
 returns-3 : tie.Need-returns-3
 returns-3 c =

@@ -1,7 +1,7 @@
 -- `steps::end::six_left` meets its contract: no place is legal, the youngest ends, or another.
 use native.Mathlib.Omega.{arith}
 use Prim.Native.Nat.{_-_}
-use Rattle.steps.proofs.EndingSix.{none-left, first-left, other-left, joined-words}
+use Rattle.steps.proofs.EndingSix.{third-inside, none-left, first-left, other-left, joined-words}
 use borrow.Author.Needs.{needs}
 use Rattle.steps.proofs.end.six_left.Statement.{statement}
 use Rattle.steps.proofs.end.six_left.Tie as tie
@@ -58,7 +58,7 @@ five-left-requires c κs =
     let h = start .pre in
     let z = c .if2 .left in
     let m = h .0 .0 .touched (omega arith) in
-    (h .1 .1 .0, omega arith, omega arith)
+    (h .1 .1 .0, omega arith, third-inside)
 
 third-alone-requires-2 : tie.Need-third-alone-requires-2
 third-alone-requires-2 c κs = search needs
