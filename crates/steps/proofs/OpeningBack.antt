@@ -13,14 +13,16 @@ use borrow.Author.Tests.{ltb-true, ltb-false, eqb-true, eqb-false}
 use Rattle.rules.specs.Basic.{pick}
 use Rattle.rules.specs.Street.{fits}
 use Rattle.rules.proofs.Fits.{Fits}
-use Rattle.steps.specs.Ranks.{fact}
-use Rattle.steps.specs.Sets.{ranks, slots, held, slot, wordAt, bit, marked, Written, Loses}
+use Rattle.steps.specs.Ranks.{fact, RankOf}
+use Rattle.steps.specs.Sets.{ranks, slots, slot, wordAt, bit, marked, Written, Loses}
+use Rattle.steps.specs.Masks.{between}
 use Rattle.steps.specs.Opening.{Places, Joined, Entered}
 use Rattle.steps.proofs.Ranks.{rank-digit}
-use Rattle.steps.proofs.Slots.{held-few, held-middle, slot-few, slot-middle, slot-below}
+use Rattle.steps.proofs.Slots.{held-few, held-middle, held-below, slot-few, slot-middle, slot-below}
 use Rattle.steps.proofs.Bits.{not-both, marked-bit, marked-held, last-or}
 use Rattle.steps.proofs.Hops.{fits-fits, fitting}
 use Rattle.steps.proofs.Words.{bit-and, bit-or, bit-zero}
+use Rattle.steps.proofs.Masks.{between-in, between-out}
 use Rattle.steps.proofs.OpeningBits.{both}
 use Rattle.steps.proofs.OpeningMarks.{same-marks, fact-few}
 use Rattle.steps.proofs.OpeningSlots.{or-some, picked}
@@ -32,14 +34,13 @@ second-or : (a b : Bool) → b ≡ true → a || b ≡ true
 second-or true b e = refl
 second-or false b e = e
 
--- words of gap g cut by others, v, where only ranks below n were marked
-module _ (s : List ℕ) (g n : ℕ) (t : List ℕ) (v : ℕ → ℕ) (long : length t ≡ length s)
+-- words of gap g cut by others, v
+module _ (s : List ℕ) (g : ℕ) (t : List ℕ) (v : ℕ → ℕ) (long : length t ≡ length s)
     (away : (h j : ℕ) → j < slots → (h ≡ g → ⊥) → wordAt t h j ≡ wordAt s h j)
-    (bound : (x : ℕ) → x < ranks → marked s g x ≡ true → x < n)
     (cut : (j : ℕ) → j < slots → (wordAt t g j ≡ wordAt s g j) ⊎ (wordAt t g j ≡ bitAnd (wordAt s g j) (v j)))
-    (own : (x : ℕ) → x < n → held x ≡ true → wordAt t g (slot x) ≡ bitAnd (wordAt s g (slot x)) (v (slot x))) (P : ℕ → Type 0)
-    (to : (x : ℕ) → x < n → held x ≡ true → bit (v (slot x)) (x % 24) ≡ true → P x)
-    (from : (x : ℕ) → x < n → held x ≡ true → P x → bit (v (slot x)) (x % 24) ≡ true) where
+    (own : (x : ℕ) → marked s g x ≡ true → wordAt t g (slot x) ≡ bitAnd (wordAt s g (slot x)) (v (slot x))) (P : ℕ → Type 0)
+    (to : (x : ℕ) → marked s g x ≡ true → bit (v (slot x)) (x % 24) ≡ true → P x)
+    (from : (x : ℕ) → marked s g x ≡ true → P x → bit (v (slot x)) (x % 24) ≡ true) where
   cut-was : (x : ℕ) → x < ranks → marked t g x ≡ true → marked s g x ≡ true
   cut-was x l e =
       let h = marked-held t g x e in
@@ -49,10 +50,11 @@ module _ (s : List ℕ) (g n : ℕ) (t : List ℕ) (v : ℕ → ℕ) (long : len
       (sym (bit-and (wordAt s g (slot x)) (v (slot x)) (x % 24)) ∙ ap (λ (w : ℕ). bit w (x % 24)) (sym d) ∙ b) .0)
       (cut (slot x) (slot-below x h))
 
-  cut-own : (x : ℕ) → x < n → held x ≡ true → marked t g x ≡ marked s g x && bit (v (slot x)) (x % 24)
-  cut-own x l h =
-      marked-bit t g x h ∙ ap (λ (w : ℕ). bit w (x % 24)) (own x l h) ∙ bit-and (wordAt s g (slot x)) (v (slot x)) (x % 24) ∙
-      ap (λ (b : Bool). b && bit (v (slot x)) (x % 24)) (sym (marked-bit s g x h))
+  cut-own : (x : ℕ) → marked s g x ≡ true → marked t g x ≡ bit (v (slot x)) (x % 24)
+  cut-own x e =
+      let h = marked-held s g x e in
+      marked-bit t g x h ∙ ap (λ (w : ℕ). bit w (x % 24)) (own x e) ∙ bit-and (wordAt s g (slot x)) (v (slot x)) (x % 24) ∙
+      ap (λ (b : Bool). b && bit (v (slot x)) (x % 24)) (sym (marked-bit s g x h) ∙ e)
 
   pub cut-loses : Loses s g P t
   cut-loses =
@@ -60,19 +62,9 @@ module _ (s : List ℕ) (g n : ℕ) (t : List ℕ) (v : ℕ → ℕ) (long : len
         long = long;
         others = λ h x l f. same-marks s t h x (λ j k. away h j k f);
         was = cut-was;
-        sound = λ x l e. sound x l e (bound x l (cut-was x l e));
-        full = λ x l e p. full x e p (bound x l e) (marked-held s g x e);
+        sound = λ x l e. let w = cut-was x l e in to x w (sym (cut-own x w) ∙ e);
+        full = λ x l e p. cut-own x e ∙ from x e p;
       }
-    where
-      sound : (x : ℕ) → x < ranks → marked t g x ≡ true → x < n → P x
-      sound x l e m =
-          let h = marked-held t g x e in
-          to x m h (both (marked s g x) (bit (v (slot x)) (x % 24)) (sym (cut-own x m h) ∙ e) .1)
-
-      full : (x : ℕ) → marked s g x ≡ true → P x → x < n → held x ≡ true → marked t g x ≡ true
-      full x e p m h =
-          let d = from x m h p in
-          cut-own x m h ∙ ap (λ (b : Bool). b && bit (v (slot x)) (x % 24)) e ∙ d
 
 -- the marks of a gap by words
 module _ (s : List ℕ) (g : ℕ) where
@@ -179,10 +171,14 @@ module _ (s : List ℕ) (g ku kl b m f z : ℕ) (hb : b ≤ 3) (ef : f ≡ fact 
 
   pub few-loses : Loses s g (Entered ku kl b s (suc g)) t
   few-loses =
-      cut-loses s g (fact b) t (λ k. z) (put .long) (λ h j l n. put .others h j l (λ e d. n e)) bound (λ j l. go j l (eqb j 0) refl)
-      (λ x l h. rw (first x l) (put .own)) (Entered ku kl b s (suc g))
-      (λ x l h e. few-to x (rw ef l) (ap (bit z) (sym (low x l)) ∙ e)) (λ x l h p. ap (bit z) (low x l) ∙ few-from x (rw ef l) p)
+      cut-loses s g t (λ k. z) (put .long) (λ h j l n. put .others h j l (λ e d. n e)) (λ j l. go j l (eqb j 0) refl)
+      (λ x m. rw (first x (below x m)) (put .own)) (Entered ku kl b s (suc g))
+      (λ x m e. let l = below x m in few-to x (rw ef l) (ap (bit z) (sym (low x l)) ∙ e))
+      (λ x m p. let l = below x m in ap (bit z) (low x l) ∙ few-from x (rw ef l) p)
     where
+      below : (x : ℕ) → marked s g x ≡ true → x < fact b
+      below x m = bound x (omega (arith, held-below x (marked-held s g x m))) m
+
       low : (x : ℕ) → x < fact b → x % 24 ≡ x
       low x l = omega (arith, fact-few b hb)
 
@@ -237,13 +233,13 @@ module _ (s : List ℕ) (g ku kl x y z : ℕ) (hu : ku ≤ 3) (hl : kl ≤ 3) (b
   pub fifth-loses : Loses s g (Entered ku kl 4 s (suc g)) t
   unfolding fact
   fifth-loses =
-      cut-loses s g 24 t (λ k. bitOr (bitOr x y) z) (put .long) (λ h j l n. put .others h j l (λ e d. n e)) below
-      (λ j l. go j l (eqb j 0) refl) (λ r l h. rw (first r l) (put .own)) (Entered ku kl 4 s (suc g))
-      (λ r l h e. fifth-to r l (ap (bit (bitOr (bitOr x y) z)) (sym (low r l)) ∙ e))
-      (λ r l h p. ap (bit (bitOr (bitOr x y) z)) (low r l) ∙ fifth-from r l p)
+      cut-loses s g t (λ k. bitOr (bitOr x y) z) (put .long) (λ h j l n. put .others h j l (λ e d. n e)) (λ j l. go j l (eqb j 0) refl)
+      (λ r m. rw (first r (below r m)) (put .own)) (Entered ku kl 4 s (suc g))
+      (λ r m e. let l = below r m in fifth-to r l (ap (bit (bitOr (bitOr x y) z)) (sym (low r l)) ∙ e))
+      (λ r m p. let l = below r m in ap (bit (bitOr (bitOr x y) z)) (low r l) ∙ fifth-from r l p)
     where
-      below : (r : ℕ) → r < ranks → marked s g r ≡ true → r < 24
-      below r l e = bound r l e
+      below : (r : ℕ) → marked s g r ≡ true → r < 24
+      below r m = bound r (omega (arith, held-below r (marked-held s g r m))) m
 
       low : (r : ℕ) → r < 24 → r % 24 ≡ r
       low r l = omega arith
@@ -260,26 +256,29 @@ module _ (s : List ℕ) (g ku kl x y z : ℕ) (hu : ku ≤ 3) (hl : kl ≤ 3) (b
 abbrev nextTwo : (s : List ℕ) (g k : ℕ) → ℕ
 nextTwo s g k = bitOr (wordAt s (suc g) (5 + k)) (wordAt s (suc g) (10 + k))
 
--- the words of k places of the fifth are cut
+-- the words of the places of the fifth from 1 on before k are cut
 pub record Cut (s : List ℕ) (g k : ℕ) (t : List ℕ) : Type 0 where
   pub long : length t ≡ length s
-  pub most : k ≤ 5
-  pub left : (h j : ℕ) → j < slots → (h ≡ g → k ≤ j) → wordAt t h j ≡ wordAt s h j
-  pub done : (j : ℕ) → j < k → wordAt t g j ≡ bitAnd (wordAt s g j) (nextTwo s g j)
+  pub least : 1 ≤ k
+  pub most : k ≤ 4
+  pub left : (h j : ℕ) → j < slots → (h ≡ g → 1 ≤ j → k ≤ j) → wordAt t h j ≡ wordAt s h j
+  pub done : (j : ℕ) → 1 ≤ j → j < k → wordAt t g j ≡ bitAnd (wordAt s g j) (nextTwo s g j)
 
 module _ (s : List ℕ) (g : ℕ) where
-  pub cut-start : Cut s g 0 s
-  cut-start = record { long = refl; most = omega arith; left = λ h j l f. refl; done = λ j l. absurd (omega arith) }
+  pub cut-start : Cut s g 1 s
+  cut-start =
+      record { long = refl; least = omega arith; most = omega arith; left = λ h j l f. refl; done = λ j o l. absurd (omega arith) }
 
-  pub cut-step : (k a b c : ℕ) (t u : List ℕ) → Cut s g k t → k < 5 → a ≡ wordAt t (g + 1) (5 + k) → b ≡ wordAt t (g + 1) (10 + k) →
+  pub cut-step : (k a b c : ℕ) (t u : List ℕ) → Cut s g k t → k < 4 → a ≡ wordAt t (g + 1) (5 + k) → b ≡ wordAt t (g + 1) (10 + k) →
       c ≡ wordAt t g k → Written t g k (bitAnd c (bitOr a b)) u → Cut s g (k + 1) u
   cut-step k a b c t u f hk ea eb ec p =
       record {
         long = p .long ∙ f .long;
+        least = omega arith;
         most = omega arith;
-        left = λ h j l n. p .others h j l (λ e d. omega (arith, n e)) ∙ f .left h j l (λ e. omega (arith, n e));
-        done = λ j l. last-or (wordAt u g j ≡ bitAnd (wordAt s g j) (nextTwo s g j)) j k l (λ e. rw e (p .own ∙ words))
-            (λ m. p .others g j (omega arith) (λ q d. omega arith) ∙ f .done j m);
+        left = λ h j l n. p .others h j l (λ e d. omega (arith, n e (omega (arith, f .least)))) ∙ f .left h j l (λ e o. omega (arith, n e o));
+        done = λ j o l. last-or (wordAt u g j ≡ bitAnd (wordAt s g j) (nextTwo s g j)) j k l (λ e. rw e (p .own ∙ words))
+            (λ m. p .others g j (omega arith) (λ q d. omega arith) ∙ f .done j o m);
       }
     where
       other : (j : ℕ) → j < slots → wordAt t (g + 1) j ≡ wordAt s (suc g) j
@@ -287,7 +286,7 @@ module _ (s : List ℕ) (g : ℕ) where
 
       words : bitAnd c (bitOr a b) ≡ bitAnd (wordAt s g k) (nextTwo s g k)
       words =
-          ap₂ bitAnd (ec ∙ f .left g k (omega arith) (λ e. omega arith))
+          ap₂ bitAnd (ec ∙ f .left g k (omega arith) (λ e o. omega arith))
           (ap₂ bitOr (ea ∙ other (5 + k) (omega arith)) (eb ∙ other (10 + k) (omega arith)))
 
   sixth-to : (r : ℕ) → r < 120 → bit (nextTwo s g (r / 24)) (r % 24) ≡ true → Entered 3 3 5 s (suc g) r
@@ -314,18 +313,34 @@ module _ (s : List ℕ) (g : ℕ) where
           second-or (bit (wordAt s (suc g) (5 + r / 24)) (r % 24)) (bit (wordAt s (suc g) (10 + r / 24)) (r % 24)) (sym (sixth-three s (suc g) r h) ∙ c)
       go (suc (suc (suc (suc q)))) l c = absurd (omega (arith, l .upper))
 
-  pub sixth-loses : (k : ℕ) (t : List ℕ) → 5 ≤ k → ((x : ℕ) → x < ranks → marked s g x ≡ true → x < fact 5) → Cut s g k t →
+  pub sixth-loses : (k : ℕ) (t : List ℕ) → 4 ≤ k → ((x : ℕ) → marked s g x ≡ true → RankOf 5 x) → Cut s g k t →
       Loses s g (Entered 3 3 5 s (suc g)) t
   unfolding fact
-  sixth-loses k t hk bound f =
-      cut-loses s g 120 t (nextTwo s g) (f .long) (λ h j l n. f .left h j l (λ e. absurd (n e))) bound (λ j l. go j l (ltb j 5) refl)
-      (λ x l h. rw (slot-few x l) (f .done (x / 24) (omega arith))) (Entered 3 3 5 s (suc g))
-      (λ x l h e. sixth-to x l (ap (λ (j : ℕ). bit (nextTwo s g j) (x % 24)) (sym (slot-few x l)) ∙ e))
-      (λ x l h p. ap (λ (j : ℕ). bit (nextTwo s g j) (x % 24)) (slot-few x l) ∙ sixth-from x l p)
+  sixth-loses k t hk of f =
+      cut-loses s g t (nextTwo s g) (f .long) (λ h j l n. f .left h j l (λ e. absurd (n e))) (λ j l. go j l (between 1 4 j) refl)
+      (λ x e.
+      let (o, m) = inner x e in
+      rw (slot-few x (omega arith)) (f .done (x / 24) (omega arith) (omega arith))) (Entered 3 3 5 s (suc g))
+      (λ x m e.
+      let (o, l) = inner x m in
+      sixth-to x (omega arith) (ap (λ (j : ℕ). bit (nextTwo s g j) (x % 24)) (sym (slot-few x (omega arith))) ∙ e))
+      (λ x m p.
+      let (o, l) = inner x m in
+      ap (λ (j : ℕ). bit (nextTwo s g j) (x % 24)) (slot-few x (omega arith)) ∙ sixth-from x (omega arith) p)
     where
-      go : (j : ℕ) → j < slots → (c : Bool) → ltb j 5 ≡ c → (wordAt t g j ≡ wordAt s g j) ⊎ (wordAt t g j ≡ bitAnd (wordAt s g j) (nextTwo s g j))
-      go j l true e = inr (f .done j (omega (arith, ltb-true j 5 e)))
-      go j l false e = inl (f .left g j l (λ q. omega (arith, ltb-false j 5 e, f .most)))
+      inner : (x : ℕ) → marked s g x ≡ true → (24 ≤ x) × (x < 96)
+      inner x e =
+          let l : x < 120 = of x e .below in
+          let (a, b) = of x e .inner (omega arith) in
+          (omega arith, omega arith)
+
+      go : (j : ℕ) → j < slots → (c : Bool) → between 1 4 j ≡ c → (wordAt t g j ≡ wordAt s g j) ⊎ (wordAt t g j ≡ bitAnd (wordAt s g j) (nextTwo s g j))
+      go j l true e = let (o, m) = between-out 1 4 j e in inr (f .done j o (omega arith))
+      go j l false e = inl (f .left g j l (λ q o. outside o (ltb j k) refl))
+        where
+          outside : 1 ≤ j → (b : Bool) → ltb j k ≡ b → k ≤ j
+          outside o true m = absurd (not-both e (between-in 1 4 j o (omega (arith, ltb-true j k m, f .most))))
+          outside o false m = ltb-false j k m
 
 -- no rank is left: the first k words are 0
 pub record Cleared (s : List ℕ) (g k : ℕ) (t : List ℕ) : Type 0 where

@@ -11,13 +11,15 @@ use lib.Dec.{eqb, ltb}
 use borrow.Author.Tests.{ltb-true, ltb-false, eqb-true, eqb-false}
 use Rattle.rules.specs.Basic.{pick}
 use Rattle.rules.specs.Street.{fits}
-use Rattle.steps.specs.Ranks.{fact}
+use Rattle.steps.specs.Ranks.{fact, RankOf}
 use Rattle.steps.specs.Sets.{slots, held, slot, wordAt, bit, marked, source, Written, Empty, Some, Bare}
+use Rattle.steps.specs.Masks.{between}
 use Rattle.steps.specs.Opening.{wide, Fifth, Before, Opened}
 use Rattle.steps.proofs.Slots.{held-few, slot-few, slot-cases, slot-below}
 use Rattle.steps.proofs.Bits.{not-both, marked-bit, last-or}
 use Rattle.steps.proofs.Hops.{fitting, unfit}
 use Rattle.steps.proofs.Words.{bit-or, bit-zero}
+use Rattle.steps.proofs.Masks.{between-in, between-out}
 use Rattle.steps.proofs.OpeningMarks.{same-marks, unwritten, bare-none, bare-some, bare-test, first-told}
 
 pub or-some : (a b : Bool) → a || b ≡ true → (a ≡ true) ⊎ (b ≡ true)
@@ -151,32 +153,37 @@ unfolding source
 source-same s t zero r f = refl
 source-same s t (suc g) r f = f g (λ e. omega arith)
 
--- a sixth net: the words of k places of the fifth are copied, to both places of the sixth
+-- a sixth net: the words of the places of the fifth from 1 on before k are copied, to both places of the sixth. Slot j is none of them:
+abbrev Aside : (k j : ℕ) → Type 0
+Aside k j = (i : ℕ) → 1 ≤ i → i < k → (j ≡ 5 + i → ⊥) × (j ≡ 10 + i → ⊥)
+
 pub record Sixth (s : List ℕ) (g k : ℕ) (t : List ℕ) (any : ℕ) : Type 0 where
   pub long : length t ≡ length s
-  pub most : k ≤ 5
-  pub left : (h j : ℕ) → j < slots → (h ≡ g → j < 5) → wordAt t h j ≡ wordAt s h j
-  pub at-two : (j : ℕ) → j < k → Before s g j (wordAt t g (5 + j))
-  pub at-three : (j : ℕ) → j < k → wordAt t g (10 + j) ≡ wordAt t g (5 + j)
+  pub least : 1 ≤ k
+  pub most : k ≤ 4
+  pub left : (h j : ℕ) → j < slots → (h ≡ g → Aside k j) → wordAt t h j ≡ wordAt s h j
+  pub at-two : (j : ℕ) → 1 ≤ j → j < k → Before s g j (wordAt t g (5 + j))
+  pub at-three : (j : ℕ) → 1 ≤ j → j < k → wordAt t g (10 + j) ≡ wordAt t g (5 + j)
   pub small : any < wide
-  pub zeros : any ≡ 0 → (j : ℕ) → j < k → wordAt t g (5 + j) ≡ 0
-  pub some : (i : ℕ) → bit any i ≡ true → (j : ℕ) × (j < k) × (bit (wordAt t g (5 + j)) i ≡ true)
+  pub zeros : any ≡ 0 → (j : ℕ) → 1 ≤ j → j < k → wordAt t g (5 + j) ≡ 0
+  pub some : (i : ℕ) → bit any i ≡ true → (j : ℕ) × (1 ≤ j) × (j < k) × (bit (wordAt t g (5 + j)) i ≡ true)
 
 module _ (s : List ℕ) (g : ℕ) where
-  pub sixth-start : Sixth s g 0 s 0
+  pub sixth-start : Sixth s g 1 s 0
   sixth-start =
       record {
         long = refl;
+        least = omega arith;
         most = omega arith;
         left = λ h j l f. refl;
-        at-two = λ j l. absurd (omega arith);
-        at-three = λ j l. absurd (omega arith);
+        at-two = λ j o l. absurd (omega arith);
+        at-three = λ j o l. absurd (omega arith);
         small = omega arith;
-        zeros = λ e j l. absurd (omega arith);
+        zeros = λ e j o l. absurd (omega arith);
         some = λ i e. absurd (not-both (bit-zero i) e);
       }
 
-  module _ (k any w : ℕ) (t t₁ t₂ : List ℕ) (f : Sixth s g k t any) (hk : k < 5) (before : Before t g k w) (p₁ : Written t g (5 + k) w t₁)
+  module _ (k any w : ℕ) (t t₁ t₂ : List ℕ) (f : Sixth s g k t any) (hk : k < 4) (before : Before t g k w) (p₁ : Written t g (5 + k) w t₁)
       (p₂ : Written t₁ g (10 + k) w t₂) where
     now-two : wordAt t₂ g (5 + k) ≡ w
     now-two = p₂ .others g (5 + k) (omega arith) (λ e d. omega arith) ∙ p₁ .own
@@ -199,33 +206,65 @@ module _ (s : List ℕ) (g : ℕ) where
     sixth-step =
         record {
           long = p₂ .long ∙ p₁ .long ∙ f .long;
+          least = omega arith;
           most = omega arith;
-          left = λ h j l n. was h j l (λ e. ((λ d. omega (arith, n e)), (λ d. omega (arith, n e)))) ∙ f .left h j l n;
-          at-two = λ j l. last-or (Before s g j (wordAt t₂ g (5 + j))) j k l (λ e. rw (e, now-two) before-now)
-              (λ m. rw (was-two j m) (f .at-two j m));
-          at-three = λ j l. last-or (wordAt t₂ g (10 + j) ≡ wordAt t₂ g (5 + j)) j k l (λ e. rw e (p₂ .own ∙ sym now-two))
-              (λ m. was g (10 + j) (omega arith) (λ e. ((λ d. omega arith), (λ d. omega arith))) ∙ f .at-three j m ∙ sym (was-two j m));
+          left = λ h j l n. was h j l (λ e. n e k (f .least) (omega arith)) ∙ f .left h j l (λ e i o m. n e i o (omega arith));
+          at-two = λ j o l. last-or (Before s g j (wordAt t₂ g (5 + j))) j k l (λ e. rw (e, now-two) before-now)
+              (λ m. rw (was-two j m) (f .at-two j o m));
+          at-three = λ j o l. last-or (wordAt t₂ g (10 + j) ≡ wordAt t₂ g (5 + j)) j k l (λ e. rw e (p₂ .own ∙ sym now-two))
+              (λ m. was g (10 + j) (omega arith) (λ e. ((λ d. omega arith), (λ d. omega arith))) ∙ f .at-three j o m ∙ sym (was-two j m));
           small = or-lt 24 any w (f .small) (before .small);
-          zeros = λ z j l. last-or (wordAt t₂ g (5 + j) ≡ 0) j k l (λ e. rw e (now-two ∙ or-none any w z .1))
-              (λ m. was-two j m ∙ f .zeros (or-none any w z .0) j m);
-          some = λ i e. ⊎-elim (old i) (λ d. (k, omega arith, ap (λ (v : ℕ). bit v i) now-two ∙ d))
+          zeros = λ z j o l. last-or (wordAt t₂ g (5 + j) ≡ 0) j k l (λ e. rw e (now-two ∙ or-none any w z .1))
+              (λ m. was-two j m ∙ f .zeros (or-none any w z .0) j o m);
+          some = λ i e. ⊎-elim (old i) (λ d. (k, f .least, omega arith, ap (λ (v : ℕ). bit v i) now-two ∙ d))
               (or-some (bit any i) (bit w i) (sym (bit-or any w i) ∙ e));
         }
       where
-        old : (i : ℕ) → bit any i ≡ true → (j : ℕ) × (j < k + 1) × (bit (wordAt t₂ g (5 + j)) i ≡ true)
+        old : (i : ℕ) → bit any i ≡ true → (j : ℕ) × (1 ≤ j) × (j < k + 1) × (bit (wordAt t₂ g (5 + j)) i ≡ true)
         old i e =
-            let (j, l, d) = f .some i e in
-            (j, omega arith, ap (λ (v : ℕ). bit v i) (was-two j l) ∙ d)
+            let (j, o, l, d) = f .some i e in
+            (j, o, omega arith, ap (λ (v : ℕ). bit v i) (was-two j l) ∙ d)
 
-  -- all five
-  module _ (none : Empty s g) (k any : ℕ) (t : List ℕ) (hk : 5 ≤ k) (f : Sixth s g k t any) where
-    sixth-at : (x j : ℕ) → held x ≡ true → j < 5 → x % 120 / 24 ≡ j → wordAt t g (slot x) ≡ wordAt t g (5 + j) →
+  -- all three, where no order before has the fifth elsewhere
+  module _ (none : Empty s g) (of : (x : ℕ) → source s g x ≡ true → RankOf 5 x) (k any : ℕ) (t : List ℕ) (hk : 4 ≤ k) (f : Sixth s g k t any) where
+    sixth-at : (x j : ℕ) → held x ≡ true → 1 ≤ j → j < 4 → x % 120 / 24 ≡ j → wordAt t g (slot x) ≡ wordAt t g (5 + j) →
         marked t g x ≡ source s g (x % 120)
-    sixth-at x j h l e d =
+    sixth-at x j h o l e d =
         let r : ℕ = x % 120 in
         let c : r % 24 ≡ x % 24 = omega arith in
         marked-bit t g x h ∙ ap (λ (v : ℕ). bit v (x % 24)) d ∙ ap (bit (wordAt t g (5 + j))) (sym c) ∙
-        f .at-two j (omega arith) .told r (held-few r (omega arith)) (slot-few r (omega arith) ∙ e)
+        f .at-two j o (omega arith) .told r (held-few r (omega arith)) (slot-few r (omega arith) ∙ e)
+
+    -- with the fifth elsewhere there is no order, before or after
+    outer : (x j m : ℕ) → held x ≡ true → x % 120 / 24 ≡ j → slot x ≡ m + j → (m ≡ 5) ⊎ (m ≡ 10) → (1 ≤ j → j < 4 → ⊥) →
+        marked t g x ≡ source s g (x % 120)
+    outer x j m h e d p n =
+        unwritten s g none t x h (f .left g (slot x) (slot-below x h) (λ q i o l. (aside i o l p .0, aside i o l p .1))) ∙ sym (absent (source s g (x % 120)) refl)
+      where
+        aside : (i : ℕ) → 1 ≤ i → i < k → (m ≡ 5) ⊎ (m ≡ 10) → (slot x ≡ 5 + i → ⊥) × (slot x ≡ 10 + i → ⊥)
+        aside i o l (inl p) = ((λ q. n (omega (arith, f .most)) (omega (arith, f .most))), (λ q. omega (arith, f .most, j-below)))
+          where
+            j-below : j < 5
+            j-below = omega arith
+        aside i o l (inr p) = ((λ q. omega (arith, f .most)), (λ q. n (omega (arith, f .most)) (omega (arith, f .most))))
+
+        absent : (b : Bool) → source s g (x % 120) ≡ b → b ≡ false
+        absent false q = refl
+        absent true q =
+            let (lo, hi) = of (x % 120) q .inner (omega arith) in
+            let v : x % 120 % 120 ≡ x % 120 = omega arith in
+            absurd (n (omega arith) (omega arith))
+
+    -- the youngest at one of its places, whose words begin at slot m
+    placed : (x m : ℕ) → held x ≡ true → slot x ≡ m + x % 120 / 24 → (m ≡ 5) ⊎ (m ≡ 10) →
+        ((j : ℕ) → 1 ≤ j → j < 4 → wordAt t g (m + j) ≡ wordAt t g (5 + j)) → marked t g x ≡ source s g (x % 120)
+    placed x m h d p w = go (between 1 4 (x % 120 / 24)) refl
+      where
+        go : (b : Bool) → between 1 4 (x % 120 / 24) ≡ b → marked t g x ≡ source s g (x % 120)
+        go true q =
+            let (o, l) = between-out 1 4 (x % 120 / 24) q in
+            sixth-at x (x % 120 / 24) h o l refl (ap (wordAt t g) d ∙ w (x % 120 / 24) o l)
+        go false q = outer x (x % 120 / 24) m h refl d p (λ o l. not-both q (between-in 1 4 (x % 120 / 24) o l))
 
     sixth-own : (x : ℕ) → held x ≡ true → marked t g x ≡ fits 3 3 (suc (x / 120)) 6 && source s g (x % 120)
     sixth-own x h = go (slot-cases x h)
@@ -238,17 +277,16 @@ module _ (s : List ℕ) (g : ℕ) where
         upper : 240 ≤ x → x < 480 → slot x ≡ x / 24 - 5 → (v : Bool) → ltb x 360 ≡ v → marked t g x ≡ source s g (x % 120)
         upper l m c true e =
             let n = ltb-true x 360 e in
-            sixth-at x (x % 120 / 24) h (omega arith) refl (ap (wordAt t g) (c ∙ omega arith))
+            placed x 5 h (c ∙ omega arith) (inl refl) (λ j o l. refl)
         upper l m c false e =
             let n = ltb-false x 360 e in
-            let j : ℕ = x % 120 / 24 in
-            sixth-at x j h (omega arith) refl (ap (wordAt t g) (c ∙ omega arith) ∙ f .at-three j (omega arith))
+            placed x 10 h (c ∙ omega arith) (inr refl) (λ j o l. f .at-three j o (omega arith))
 
         go : ((x < 120) × (slot x ≡ x / 24)) ⊎ ((240 ≤ x) × (x < 480) × (slot x ≡ x / 24 - 5)) →
             marked t g x ≡ fits 3 3 (suc (x / 120)) 6 && source s g (x % 120)
         go (inl (l, c)) =
             let e = unfit 3 3 (suc (x / 120)) 6 (λ p. omega (arith, p .lower)) in
-            unwritten s g none t x h (f .left g (slot x) (slot-below x h) (λ q. omega arith)) ∙ rw e
+            unwritten s g none t x h (f .left g (slot x) (slot-below x h) (λ q i o m. ((λ d. omega arith), (λ d. omega arith)))) ∙ rw e
         go (inr (l, m, c)) = rw (fit l m) (upper l m c (ltb x 360) refl)
 
     pub sixth-opened : Opened 3 3 5 s g t
@@ -261,19 +299,23 @@ module _ (s : List ℕ) (g : ℕ) where
         }
 
     pub sixth-bare : Bare t g (eqb any 0)
-    sixth-bare = bare-test t g any (λ e. bare-none s g none t (λ j l. go e j l (ltb j 5) (ltb j 10) refl refl)) some (f .small)
+    sixth-bare = bare-test t g any (λ e. bare-none s g none t (λ j l. go e j l (between 6 9 j) (between 11 14 j) refl refl)) some (f .small)
       where
-        go : any ≡ 0 → (j : ℕ) → j < slots → (a b : Bool) → ltb j 5 ≡ a → ltb j 10 ≡ b → (wordAt t g j ≡ wordAt s g j) ⊎ (wordAt t g j ≡ 0)
-        go z j l true b ea eb = inl (f .left g j l (λ q. ltb-true j 5 ea))
+        go : any ≡ 0 → (j : ℕ) → j < slots → (a b : Bool) → between 6 9 j ≡ a → between 11 14 j ≡ b →
+            (wordAt t g j ≡ wordAt s g j) ⊎ (wordAt t g j ≡ 0)
+        go z j l true b ea eb =
+            let (o, m) = between-out 6 9 j ea in
+            inr (ap (wordAt t g) (omega arith) ∙ f .zeros z (j - 5) (omega arith) (omega arith))
         go z j l false true ea eb =
-            let h = ltb-false j 5 ea in
-            let m = ltb-true j 10 eb in
-            inr (ap (wordAt t g) (omega arith) ∙ f .zeros z (j - 5) (omega arith))
+            let (o, m) = between-out 11 14 j eb in
+            inr (ap (wordAt t g) (omega arith) ∙ f .at-three (j - 10) (omega arith) (omega arith) ∙ f .zeros z (j - 10) (omega arith) (omega arith))
         go z j l false false ea eb =
-            let m = ltb-false j 10 eb in
-            inr (ap (wordAt t g) (omega arith) ∙ f .at-three (j - 10) (omega arith) ∙ f .zeros z (j - 10) (omega arith))
+            inl (f .left g j l (λ q i o m. (
+              (λ d. not-both ea (between-in 6 9 j (omega arith) (omega (arith, f .most)))),
+              (λ d. not-both eb (between-in 11 14 j (omega arith) (omega (arith, f .most)))),
+            )))
 
         some : (i : ℕ) → i < 24 → bit any i ≡ true → Some t g
         some i l e =
-            let (j, m, d) = f .some i e in
+            let (j, o, m, d) = f .some i e in
             bare-some t g (5 + j) i (omega (arith, f .most)) l d

@@ -11,9 +11,10 @@ ghost use mathlib.Core.Bool.{true};
 ghost use Prim.Native.Nat.{ℕ, suc, _+_, _*_, _≤_, _<_};
 ghost use lib.ListN.{length, getD};
 ghost use Rattle.rules.specs.Basic.{pick};
-ghost use Rattle.steps.specs.Ranks.{fact};
+ghost use Rattle.steps.specs.Ranks.{fact, RankOf};
 ghost use Rattle.steps.specs.Sets.{ranks, stretch, slots, marked, source, Empty, Exactly, Bare, Loses};
 ghost use Rattle.steps.specs.Stops.{Sound};
+ghost use Rattle.steps.specs.Masks.{Sources};
 ghost use Rattle.steps.specs.Leading.{Reached, Onward};
 ghost use Rattle.steps.specs.Opening.{placesBy, Fifth, Before, Places, Under, Copies, Joined, Opened, Entered};
 
@@ -21,7 +22,7 @@ ghost use Rattle.steps.specs.Opening.{placesBy, Fifth, Before, Places, U
 pub fn open(work: &mut [u8], g: usize, stop: Stop) -> bool
     requires { ⌜ Sound stop × (stop .kind ≡ 0) × (stretch * suc g ≤ length (now work)) ⌝ }
     requires { ⌜ Empty (now work) g ⌝ }
-    requires { ⌜ ((x : ℕ) → x < ranks → source (now work) g x ≡ true → x < fact (stop .count)) ⌝ }
+    requires { ⌜ Sources stop (now work) g ⌝ }
     ensures { λ _. ⌜ Exactly (now (work .entry)) g (Reached stop (now (work .entry)) g) (now (work .exit)) ⌝ }
     ensures { λ r. ⌜ Bare (now (work .exit)) g r ⌝ }
 {
@@ -70,16 +71,17 @@ fn open_fifth(work: &mut [u8], g: usize, ku: u8, kl: u8) -> bool
     (x | w | z) == 0
 }
 
-// A sixth net, between two streets of three tracks: places 2 and 3 are left to it.
+// A sixth net, between two streets of three tracks: places 2 and 3 are left to it. The fifth has one, two or three above it, so that there are three words to copy.
 fn open_sixth(work: &mut [u8], g: usize) -> bool
     requires { ⌜ stretch * suc g ≤ length (now work) ⌝ }
     requires { ⌜ Empty (now work) g ⌝ }
+    requires { ⌜ ((x : ℕ) → source (now work) g x ≡ true → RankOf 5 x) ⌝ }
     ensures { λ _. ⌜ Opened 3 3 5 (now (work .entry)) g (now (work .exit)) ⌝ }
     ensures { λ r. ⌜ Bare (now (work .exit)) g r ⌝ }
 {
     let mut any: u32 = 0;
-    let mut k: usize = 0;
-    while k < 5 {
+    let mut k: usize = 1;
+    while k < 4 {
         let w = before(work, g, k);
         put_word(work, g, 5 + k, w);
         put_word(work, g, 10 + k, w);
@@ -92,7 +94,7 @@ fn open_sixth(work: &mut [u8], g: usize) -> bool
 // Leaves in gap g only the ranks from which the node after it, a B, leads to a marked rank.
 pub fn unopen(work: &mut [u8], g: usize, stop: Stop)
     requires { ⌜ Sound stop × (stop .kind ≡ 0) × (stretch * suc (suc g) ≤ length (now work)) ⌝ }
-    requires { ⌜ ((x : ℕ) → x < ranks → marked (now work) g x ≡ true → x < fact (stop .count)) ⌝ }
+    requires { ⌜ Sources stop (now work) (suc g) ⌝ }
     ensures { λ _. ⌜ Loses (now (work .entry)) g (Onward stop (now (work .entry)) (suc g)) (now (work .exit)) ⌝ }
 {
     let ku = stop.ku;
@@ -140,11 +142,11 @@ fn unopen_fifth(work: &mut [u8], g: usize, ku: u8, kl: u8)
 // The same for a sixth net, between two streets of three tracks.
 fn unopen_sixth(work: &mut [u8], g: usize)
     requires { ⌜ stretch * suc (suc g) ≤ length (now work) ⌝ }
-    requires { ⌜ ((x : ℕ) → x < ranks → marked (now work) g x ≡ true → x < fact 5) ⌝ }
+    requires { ⌜ ((x : ℕ) → marked (now work) g x ≡ true → RankOf 5 x) ⌝ }
     ensures { λ _. ⌜ Loses (now (work .entry)) g (Entered 3 3 5 (now (work .entry)) (suc g)) (now (work .exit)) ⌝ }
 {
-    let mut k: usize = 0;
-    while k < 5 {
+    let mut k: usize = 1;
+    while k < 4 {
         let x = word(work, g + 1, 5 + k) | word(work, g + 1, 10 + k);
         let w = word(work, g, k) & x;
         put_word(work, g, k, w);

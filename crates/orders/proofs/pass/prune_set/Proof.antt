@@ -1,8 +1,5 @@
 -- `orders::pass::prune_set` meets its contract: each way of doing it does, and a field that is no kind leads nowhere.
-use mathlib.Core.Path.{refl, _∙_}
-use Prim.Native.Nat.{suc}
 use native.Mathlib.Omega.{arith}
-use Rattle.steps.proofs.Bits.{source-gap}
 use Rattle.orders.proofs.Staying.{nowhere-onward}
 use borrow.Author.Needs.{needs}
 use Rattle.orders.proofs.pass.prune_set.Statement.{statement}
@@ -10,10 +7,8 @@ use Rattle.orders.proofs.pass.prune_set.Tie as tie
 
 unopen-requires : tie.Need-unopen-requires
 unopen-requires c κs =
-    let g = c .before .before .before .before in (
-      (g .pre .0 .0, c .before .match .keys1, g .pre .0 .1),
-      λ x l m. g .pre .1 .1 .0 x (source-gap (g .args .work .now) (suc (g .args .g)) (g .args .g) x refl ∙ m) .below,
-    )
+    let g = c .before .before .before .before in
+    ((g .pre .0 .0, c .before .match .keys1, g .pre .0 .1), g .pre .1 .1 .0)
 
 prune-touched-requires : tie.Need-prune-touched-requires
 prune-touched-requires c κs = search needs

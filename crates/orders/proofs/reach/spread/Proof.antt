@@ -9,7 +9,7 @@ use Rattle.orders.proofs.reach.spread.Tie as tie
 open-requires : tie.Need-open-requires
 open-requires c κs =
     let h = c .before .before .before .before .pre in
-    ((h .0 .0, c .before .match .keys1, h .0 .1), (h .1 .0, λ x l m. h .1 .1 .0 x m .below))
+    ((h .0 .0, c .before .match .keys1, h .0 .1), (h .1 .0, h .1 .1 .0))
 
 touch-requires : tie.Need-touch-requires
 touch-requires c κs =

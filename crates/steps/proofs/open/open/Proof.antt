@@ -1,5 +1,5 @@
 -- `steps::open::open` meets its contract: by the number of nets, what its words mark is what the transition leads to.
-use mathlib.Core.Path.{refl}
+use mathlib.Core.Path.{_≡_, refl}
 use native.Mathlib.Omega.{arith}
 use Rattle.steps.proofs.OpeningSteps.{opened-exactly, opened-none, opened-at}
 use borrow.Author.Needs.{needs}
@@ -10,7 +10,10 @@ cast-b : tie.Need-cast-b
 cast-b c = search needs
 
 open-few-requires : tie.Need-open-few-requires
-open-few-requires c κs = search needs
+open-few-requires c κs =
+    let g = c .before .before .before .before in
+    let o = g .pre .0 .0 in
+    ((o .upper, o .lower, omega (arith, c .before .if1 .taken), g .pre .0 .2), (g .pre .1 .0, λ x l e. g .pre .1 .1 x e .below))
 
 same-length : tie.Need-same-length
 same-length c = search needs
@@ -66,7 +69,14 @@ returns-3 c =
     )
 
 open-sixth-requires : tie.Need-open-sixth-requires
-open-sixth-requires c κs = search needs
+open-sixth-requires c κs =
+    let g = c .before .before .before .before .before .before in
+    let o = g .pre .0 .0 in
+    let h₁ = c .before .before .before .if1 .left in
+    let h₂ = c .before .before .if2 .left in
+    let h₃ = c .before .if3 .left in
+    let e : g .args .stop .count ≡ 5 = omega (arith, h₁, h₂, h₃, o .upper, o .lower) in
+    (g .pre .0 .2, (g .pre .1 .0, rw e at (g .pre .1 .1)))
 
 same-length-3 : tie.Need-same-length-3
 same-length-3 c = search needs

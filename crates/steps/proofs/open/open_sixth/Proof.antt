@@ -9,7 +9,7 @@ abbrev Inv-loop : tie.InvT-loop
 Inv-loop work₀ g any₀ k₀ work any k = Sixth work₀ g k work any
 
 abbrev μ-loop : tie.MeasureT-loop
-μ-loop work₀ g any₀ k₀ work any k = 5 - k
+μ-loop work₀ g any₀ k₀ work any k = 4 - k
 
 loop-holds : tie.Need-loop-holds Inv-loop μ-loop
 loop-holds c = sixth-start (c .before .args .work .now) (c .before .args .g)
@@ -54,8 +54,8 @@ returns : tie.Need-returns Inv-loop μ-loop
 returns c =
     let g = c .before .before .before in
     let l = c .before .loop in (
-      sixth-opened (g .args .work .now) (g .args .g) (g .pre .1) (l .k) (l .any) (l .work) (omega (arith, c .loop-test .left)) (l .inv),
-      sixth-bare (g .args .work .now) (g .args .g) (g .pre .1) (l .k) (l .any) (l .work) (omega (arith, c .loop-test .left)) (l .inv),
+      sixth-opened (g .args .work .now) (g .args .g) (g .pre .1 .0) (g .pre .1 .1) (l .k) (l .any) (l .work) (omega (arith, c .loop-test .left)) (l .inv),
+      sixth-bare (g .args .work .now) (g .args .g) (g .pre .1 .0) (g .pre .1 .1) (l .k) (l .any) (l .work) (omega (arith, c .loop-test .left)) (l .inv),
     )
 
 pub open-sixth-spec : {M : Type 1} → statement M

@@ -1,6 +1,8 @@
 -- `steps::open::unopen` meets its contract: by the number of nets, what its words keep is what leads on.
 use mathlib.Core.Path.{_≡_, refl}
 use native.Mathlib.Omega.{arith}
+use Rattle.steps.specs.Sets.{source}
+use Rattle.steps.proofs.EndingSets.{marks-below}
 use Rattle.steps.proofs.OpeningSteps.{entered-onward, entered-at, none-onward}
 use borrow.Author.Needs.{needs}
 use Rattle.steps.proofs.open.unopen.Statement.{statement}
@@ -10,7 +12,10 @@ cast-b : tie.Need-cast-b
 cast-b c = search needs
 
 unopen-few-requires : tie.Need-unopen-few-requires
-unopen-few-requires c κs = search needs
+unopen-few-requires c κs =
+    let g = c .before .before .before .before in
+    let o = g .pre .0 .0 in
+    ((o .upper, o .lower, omega (arith, c .before .if1 .taken), g .pre .0 .2), marks-below (g .args .stop) (g .args .work .now) (g .args .g) (g .pre .1))
 
 same-length : tie.Need-same-length
 same-length c = search needs
@@ -52,7 +57,7 @@ unopen-fifth-requires c κs =
     let o = g .pre .0 .0 in
     let h = c .before .before .if2 .left in
     let e : g .args .stop .count ≡ 4 = omega (arith, c .before .if3 .taken) in
-    ((record { upper = o .upper; lower = o .lower; sum = omega (arith, e, h) }, g .pre .0 .2), rw (← e) (g .pre .1))
+    ((record { upper = o .upper; lower = o .lower; sum = omega (arith, e, h) }, g .pre .0 .2), rw (← e) (marks-below (g .args .stop) (g .args .work .now) (g .args .g) (g .pre .1)))
 
 same-length-3 : tie.Need-same-length-3
 same-length-3 c = search needs
@@ -67,6 +72,7 @@ returns-3 c =
     (p .ensures)
 
 unopen-sixth-requires : tie.Need-unopen-sixth-requires
+unfolding source
 unopen-sixth-requires c κs =
     let g = c .before .before .before .before .before .before in
     let o = g .pre .0 .0 in
@@ -74,7 +80,7 @@ unopen-sixth-requires c κs =
     let h₂ = c .before .before .if2 .left in
     let h₃ = c .before .if3 .left in
     let e : g .args .stop .count ≡ 5 = omega (arith, h₁, h₂, h₃, o .upper, o .lower) in
-    (g .pre .0 .2, rw (← e) (g .pre .1))
+    (g .pre .0 .2, rw e at (g .pre .1))
 
 same-length-4 : tie.Need-same-length-4
 same-length-4 c = search needs

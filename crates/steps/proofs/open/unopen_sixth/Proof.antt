@@ -9,7 +9,7 @@ abbrev Inv-loop : tie.InvT-loop
 Inv-loop work₀ g k₀ work k = Cut work₀ g k work
 
 abbrev μ-loop : tie.MeasureT-loop
-μ-loop work₀ g k₀ work k = 5 - k
+μ-loop work₀ g k₀ work k = 4 - k
 
 loop-holds : tie.Need-loop-holds Inv-loop μ-loop
 loop-holds c = cut-start (c .before .args .work .now) (c .before .args .g)
