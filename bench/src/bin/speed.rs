@@ -5,15 +5,9 @@
 //! with the feature `shifted` the library's code stands 16 bytes further on, which times show.
 //!
 //! `speed count [ROWS]` calls words, depth first and published once a row, for callgrind to count
-//! the instructions inside each call. It prints a line for each part that callgrind writes: the
-//! router, the row's class and streets, n, and the nodes that the count is shared among.
-//!
-//! ```text
-//! GLIBC_TUNABLES=glibc.cpu.x86_rep_stosb_threshold=100000000 valgrind --quiet --tool=callgrind \
-//!   --collect-atstart=no --toggle-collect=count_words --toggle-collect=count_depth_first \
-//!   --toggle-collect=count_published --dump-after=count_mark --callgrind-out-file=counts \
-//!   bench/target/release/speed count bench/rows.txt
-//! ```
+//! the instructions inside each call, as `scripts/performance` has it do. It prints a line for each
+//! part that callgrind writes: the router, the row's class and streets, n, and the nodes that the
+//! count is shared among.
 
 use niraflue::Said;
 use std::collections::BTreeMap;

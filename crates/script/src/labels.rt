@@ -5,7 +5,7 @@ ghost use lib.ListN.{length};
 ghost use Rattle.rules.specs.Answers.{firstLone};
 ghost use Rattle.script.specs.Tabled.{Firsts, Lasts, Tabled, alone, Apart};
 
-// Fills the tables of a row: for each label its first and its last node, counted from 1. Entries of labels that do not occur stay as they were.
+// Fills the tables of a row: for each label its first and its last node, counted from 1. Entries of labels that do not occur say nothing.
 pub fn scan(row: &[u8], first: &mut [u16; 256], last: &mut [u16; 256])
     requires { ⌜ (length (now row) ≤ 512) × (length (now first) ≡ 256) × (length (now last) ≡ 256) ⌝ }
     ensures { λ _. ⌜ Tabled (now (row .entry)) (now (first .exit)) (now (last .exit)) ⌝ }
@@ -25,8 +25,8 @@ pub fn lone<'a>(row: &[u8], first: &'a [u16; 256], last: &'a [u16; 256]) -> usiz
     first_lone(row, first, last)
 }
 
-// At how many labels the first and the last node are one. It goes through all labels without a branch, so that eight are taken at a time, and a row that has
-// no such label need not be gone through.
+// 0 only if no label has one node only. It goes through all labels without a branch, so that eight are taken at a time. A label that does not occur is not counted
+// where its entries are 0, so that a row of which no label is lone need not be gone through.
 fn lone_labels<'a>(first: &'a [u16; 256], last: &'a [u16; 256]) -> u16
     ensures { λ r. ⌜ (r ≡ 0 → Apart (now (first .entry)) (now (last .entry)) 256) ⌝ }
 {
