@@ -16,7 +16,7 @@ use Rattle.steps.specs.Four.{placeOf, leftOf, Left, Pulls, Leaves, Gone,
 use Rattle.steps.proofs.Bits.{not-both}
 use Rattle.steps.proofs.Ranks.{at-youngest, less-youngest, at-older, less-older, under-above, under-below, spared-above, spared-below}
 use Rattle.steps.proofs.Words.{bit-and, bit-or, bit-set, bit-unset, bit-zero, bit-shl, bit-shl-low, bit-shr, bit-mod, bit-high, bit-upper, bit-lower}
-use Rattle.steps.proofs.FourSets.{either, or-first, or-second, and-both, and-true, left-lt, place-lt}
+use Rattle.steps.proofs.FourSets.{either, or-first, or-second, and-both, and-true, and-none, left-lt, place-lt}
 
 -- one of three tests passes
 abbrev pub anyOf : (ℕ → Bool) → Bool
@@ -250,10 +250,6 @@ none-piece e l d x y f =
       left = record { below = omega arith; sound = λ j h. absurd (not-both (bit-zero j) h); full = λ i h b. absurd (not-both (bit-zero i) b) };
     }
 
-and-no : (t : Bool) → t && false ≡ false
-and-no true = refl
-and-no false = refl
-
 module _ (e l : ℕ) (inside : Inside l) where
   last-out : bit l 4 ≡ false
   last-out = bit-high l 4 4 (inside .below) (omega arith)
@@ -275,10 +271,10 @@ module _ (e l : ℕ) (inside : Inside l) where
       go false q = refl
 
   first-piece : (y : ℕ) → Piece e l 0 0 y 0
-  first-piece y = none-piece e l 0 0 y (λ i h. rw (bit-zero i, under-top i) (and-no (bit y i)))
+  first-piece y = none-piece e l 0 0 y (λ i h. rw (bit-zero i, under-top i) (and-none (bit y i)))
 
   last-piece : (x : ℕ) → Piece e l 3 x 0 0
-  last-piece x = none-piece e l 3 x 0 (λ i h. rw (over-last i h, bit-zero i, and-no (bit x i)))
+  last-piece x = none-piece e l 3 x 0 (λ i h. rw (over-last i h, bit-zero i, and-none (bit x i)))
 
 -- four pieces of six bits
 module _ (a b c d : ℕ) (ha : a < 64) (hb : b < 64) (hc : c < 64) where
@@ -452,14 +448,10 @@ module _ (e l : ℕ) (he : e < 4) where
       middle-word : (d : ℕ) → k ≡ suc d → overFrom k i || underFrom d i ≡ passes
       middle-word d q = go (leb k (placeOf e i)) refl
         where
-          no-or : (a : Bool) → a || false ≡ a
-          no-or true = refl
-          no-or false = refl
-
           go : (t : Bool) → leb k (placeOf e i) ≡ t → overFrom k i || underFrom d i ≡ passes
           go true t =
               let h = leb-true k (placeOf e i) t in
-              ap₂ _||_ (over-comes h) (under-none d q h) ∙ no-or passes
+              ap₂ _||_ (over-comes h) (under-none d q h) ∙ or-false passes
           go false t =
               let h = leb-false k (placeOf e i) t in
               ap₂ _||_ (over-none h) (under-comes d q h)

@@ -37,6 +37,10 @@ and-both false b e = absurd (not-both refl e)
 pub and-true : (a b : Bool) → a ≡ true → b ≡ true → a && b ≡ true
 and-true a b p q = rw (p, q)
 
+pub and-none : (a : Bool) → a && false ≡ false
+and-none true = refl
+and-none false = refl
+
 -- an element of an image has an origin
 pub record Origin (f : ℕ → ℕ) (x n j : ℕ) : Type 0 where
   pub from : ℕ

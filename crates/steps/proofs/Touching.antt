@@ -21,7 +21,7 @@ use Rattle.steps.specs.Four.{Legal, Mask}
 use Rattle.steps.proofs.Ranks.{fact-most, fact-of-four, fact-of-five}
 use Rattle.steps.proofs.Slots.{held-below, slot-below, slot-few, slot-middle, slot-cases}
 use Rattle.steps.proofs.Words.{bit-and, bit-or, bit-zero, bit-high}
-use Rattle.steps.proofs.FourSets.{either, or-first, or-second}
+use Rattle.steps.proofs.FourSets.{either, or-first, or-second, and-none}
 use Rattle.steps.proofs.OpeningMarks.{seat, bare-test}
 use Rattle.steps.proofs.EndingSets.{put-bare}
 use Rattle.steps.proofs.Masks.{same-test, between-in, between-out, between-under, between-over, alike, alike-same}
@@ -219,10 +219,6 @@ copy-none from j = go (leb from j) refl
     go : (t : Bool) → leb from j ≡ t → between from from j ≡ false
     go true e = between-over from from j (leb-true from j e) (leb-true from j e)
     go false e = between-under from from j (leb-false from j e)
-
-and-none : (t : Bool) → t && false ≡ false
-and-none true = refl
-and-none false = refl
 
 -- the ranks of the words of five nets, and of six
 slot-five : (x : ℕ) → held x ≡ true → slot x < 5 → (x < 120) × (slot x ≡ x / 24)
