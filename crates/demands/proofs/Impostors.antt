@@ -18,7 +18,7 @@ use Rattle.rules.specs.Row.{before, has, joined, home, later, kindOf, nodeAt, n
 use Rattle.rules.specs.Street.{limits, met, fits, counted, stands, next, kind, step, firstFrom, also, way, empty, first, failing}
 use Rattle.rules.specs.Bits.{digits, val, pack, unpack, bytes, Below, nil, cons}
 use Rattle.rules.specs.Sheet.{takes, code, kindIn, Entry, entry, entries, entryBits, size, padding, sheetBits, sheet, upperOf, lowerOf, countOf, entryAt, entriesOf, paddingOf, begun, labelled, labels, rowOf}
-use Rattle.rules.specs.Film.{Wire, axis, uppers, upper, heightAt, target, ran, wall, bent, drawn, climb, sink, gap, opened, closed, ending, draw, records, recBits, filmBytes}
+use Rattle.rules.specs.Film.{Wire, axis, upper, heightAt, target, ran, wall, bent, drawn, climb, sink, gap, opened, closed, ending, draw, records, recBits, filmBytes}
 use Rattle.rules.specs.Judgement.{wrongCount, head, room, broken, faultAt, left, scan, leftOpen, tail, middle, judge}
 use Rattle.rules.specs.Answers.{written, firstLone, refusal, outcome, routing, firstSheet, workAfter, sheetAfter, reading, rowAfter, drawing, FilmAfter, samePins, agrees}
 use Rattle.rules.proofs.Fields.{below-replicate}
@@ -210,7 +210,7 @@ record Seen : Type 0 where
   other : agrees abab s1 ≡ false
 
 seen : Seen
-unfolding pick tabulate every least put cut keep andThen orElse isNone settle before has joined home later kindOf nodeAt nodes lone limits met fits counted stands next kind digits val pack unpack takes code kindIn size upperOf lowerOf countOf entryAt entriesOf paddingOf begun labelled labels rowOf uppers upper heightAt target ran wall bent drawn climb sink gap opened closed ending draw records recBits filmBytes wrongCount head room broken faultAt left scan leftOpen tail middle judge reading samePins agrees drawing total
+unfolding pick tabulate every least put cut keep andThen orElse isNone settle before has joined home later kindOf nodeAt nodes lone limits met fits counted stands next kind digits val pack unpack takes code kindIn size upperOf lowerOf countOf entryAt entriesOf paddingOf begun labelled labels rowOf upper heightAt target ran wall bent drawn climb sink gap opened closed ending draw records recBits filmBytes wrongCount head room broken faultAt left scan leftOpen tail middle judge reading samePins agrees drawing total
 seen = record { row = refl; film = refl; dark = refl; bright = refl; agreed = refl; other = refl }
 
 module _ (f : Reader) (meets : MeetsReader f) where

@@ -1,20 +1,17 @@
 -- Signed levels from −3 to 3 against heights: each law is worked out over this small range.
 use mathlib.Core.Path.{_≡_, refl, sym, ap, ap₂, _∙_}
 use mathlib.Core.Bool.{Bool, true, false}
-use mathlib.Core.List.{List, [], _∷_}
 use Prim.Native.Nat.{ℕ, zero, suc, _+_, _-_, _^_, _≤_, _<_}
 use native.Mathlib.Omega.{arith}
-use lib.ListN.{getD}
 use lib.IntN.{ℤ, pos, negsuc, natAbs, _+ℤ_, _-ℤ_}
 use lib.Signed.{ltZ, nonNeg}
-use lib.Dec.{T, ltb, leb, eqb, eqb→eq, leb→le}
+use lib.Dec.{T, ltb}
 use borrow.Author.Tests.{ltb-true, ltb-false, lt-ltb, le-ltb, le-leb, lt-leb}
 use mir.Syntax.{w8, w16}
 use mir.Val.{Fits, SFits, ofZ, toZ}
 use mir.ValLaws.{toZ-ofZ, toZ-pos}
-use Rattle.rules.specs.Basic.{pick, every}
-use Rattle.rules.specs.Film.{axis, uppers, upper, heightAt}
-use Rattle.rules.proofs.Levels.{every-at}
+use Rattle.rules.specs.Basic.{pick}
+use Rattle.rules.specs.Film.{axis, heightAt}
 use Rattle.film.specs.Heights.{high, Level, Reached}
 
 level-fits : (z : ℤ) → Level z → SFits w8 z
@@ -104,28 +101,3 @@ module _ (u q : ℕ) (l : u < q) (k : q ≤ u + 3) where
   pub reached-below : Reached (heightAt u q) (toZ w8 (ofZ w8 (pos 0 -ℤ toZ w8 (q - u))))
   unfolding heightAt pick
   reached-below = rw (lt-leb q u l) (below (q - u) (omega arith) (omega arith) .1)
-
--- ---- the table
-
-unfoldable pub table : List (List ℕ)
-table = (0 ∷ 0 ∷ 0 ∷ 0 ∷ []) ∷ (1 ∷ 1 ∷ 0 ∷ 0 ∷ []) ∷ (1 ∷ 2 ∷ 2 ∷ 0 ∷ []) ∷ (1 ∷ 2 ∷ 3 ∷ 3 ∷ []) ∷ []
-
-entries : T (every (λ ku. every (λ a. eqb (getD (getD table ku []) a 0) (upper ku (suc a))) 4) 4)
-unfolding every upper uppers table
-entries = tt
-
-pub table-upper : (ku a : ℕ) → ku ≤ 3 → a ≤ 3 → getD (getD table ku []) a 0 ≡ upper ku (suc a)
-table-upper ku a h k =
-    eqb→eq (getD (getD table ku []) a 0) (upper ku (suc a))
-    (every-at (λ p. eqb (getD (getD table ku []) p 0) (upper ku (suc p))) 4
-    (every-at (λ m. every (λ p. eqb (getD (getD table m []) p 0) (upper m (suc p))) 4) 4 entries ku (omega arith)) a (omega arith))
-
-small : T (every (λ ku. every (λ a. leb (getD (getD table ku []) a 0) 3) 4) 4)
-unfolding every table
-small = tt
-
-pub table-small : (ku a : ℕ) → ku ≤ 3 → a ≤ 3 → getD (getD table ku []) a 0 ≤ 3
-table-small ku a h k =
-    leb→le (getD (getD table ku []) a 0) 3
-    (every-at (λ p. leb (getD (getD table ku []) p 0) 3) 4
-    (every-at (λ m. every (λ p. leb (getD (getD table m []) p 0) 3) 4) 4 small ku (omega arith)) a (omega arith))

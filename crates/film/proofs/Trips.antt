@@ -165,7 +165,7 @@ module _ (s film₀ : List ℕ) where
       }
 
   module _ (i : ℕ) (w : Walk) (film : List ℕ) (m : Walking i w film) (h : i < countOf s) where
-    -- the node's wire has a row of its own in the table
+    -- at most three wires stand above the node's
     pub walk-above : Headed s → aboveAt (entryAt s i) ≤ 3
     walk-above d = omega (arith, legal-above (rw (entries-from s i h) at (m .legal)), d .upper)
 
@@ -177,7 +177,7 @@ module _ (s film₀ : List ℕ) where
       unfolding begun left counted
       walk-due =
           let f = here .fits in
-          let u : n .upper ≡ min (suc (n .above)) (upperOf s) = t .upper ∙ upper-min (upperOf s) (n .above) (d .upper) (omega (arith, f .upper)) in
+          let u : n .upper ≡ min (suc (n .above)) (upperOf s) = t .upper ∙ upper-min (upperOf s) (n .above) in
           record {
             sound = m .sound;
             stands = f .high;

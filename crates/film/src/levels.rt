@@ -5,15 +5,15 @@ ghost use lib.Dec.{ltb};
 ghost use Rattle.rules.specs.Film.{upper, heightAt};
 ghost use Rattle.film.specs.Heights.{high, Level, Reached};
 
-// u, the number of wires laid in the upper street: a line for each Ku from 0, in it a number for each p from 1. Blank cells are 0.
-const UPPER: [[u8; 4]; 4] = [[0, 0, 0, 0], [1, 1, 0, 0], [1, 2, 2, 0], [1, 2, 3, 3]];
-
-// The number of wires in the upper street at a node with so many wires above its own.
+// u, the number of wires in the upper street at a node with so many wires above its own: the smaller of p and Ku.
 pub fn upper_wires(ku: usize, above: usize) -> usize
     requires { ⌜ (ku ≤ 3) × (above ≤ 3) ⌝ }
     ensures { λ r. ⌜ r ≡ upper ku (suc above) ⌝ }
 {
-    UPPER[ku][above] as usize
+    if above < ku {
+        return above + 1;
+    }
+    ku
 }
 
 // The level of the wire at position q, from 1, where u wires are in the upper street.

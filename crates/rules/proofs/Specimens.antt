@@ -1,4 +1,4 @@
--- S1 to S12 of document 01 hold for the definitions, and so do some films and refusals more: antt computes each.
+-- S1 to S12 of document 01 hold for the definitions, and so do its table of u and some films and refusals more: antt computes each.
 use mathlib.Core.Bool.{Bool, true, false, _&&_}
 use mathlib.Core.List.{List, [], _∷_, _++_}
 use Prim.Native.Nat.{ℕ, _+_, _-_, _*_}
@@ -9,7 +9,7 @@ use Rattle.rules.specs.Row.{before, has, joined, home, later, kindOf, no
 use Rattle.rules.specs.Street.{limits, met, fits, counted, stands, next, kind, step, run, positions, choices, firstFrom, also, way, empty, first, failing}
 use Rattle.rules.specs.Bits.{digits, val, pack, unpack, bytes}
 use Rattle.rules.specs.Sheet.{takes, code, kindIn, entries, entryBits, size, padding, sheetBits, sheet, upperOf, lowerOf, countOf, entryAt, entriesOf, paddingOf, begun, labelled, labels, rowOf}
-use Rattle.rules.specs.Film.{uppers, upper, heightAt, target, ran, wall, bent, drawn, climb, sink, gap, opened, closed, ending, draw, records, recBits, filmBytes, Rec, across, upright}
+use Rattle.rules.specs.Film.{upper, heightAt, target, ran, wall, bent, drawn, climb, sink, gap, opened, closed, ending, draw, records, recBits, filmBytes, Rec, across, upright}
 use Rattle.rules.specs.Judgement.{wrongCount, head, room, broken, faultAt, left, scan, leftOpen, tail, middle, judge}
 use Rattle.rules.specs.Answers.{limitNumber, faultSaid, routeSaid, readSaid, drawSaid, written, firstLone, refusal, outcome, routing, firstSheet, cleared, workAfter, sheetAfter, reading, rowAfter, samePins, agrees, drawing, FilmAfter, Said}
 
@@ -29,6 +29,8 @@ data Fact : Type 0 where
   tight : (sheet : List ℕ) → Fact
   -- the record's five bytes
   packs : Rec → (bytes : List ℕ) → Fact
+  -- under Ku upper tracks u wires are laid in the upper street at a node whose net stands at position p
+  lays : (ku p u : ℕ) → Fact
 
 sameSaid : Said → (number place : ℕ) → Bool
 sameSaid s number place = eqb (s .number) number && eqb (s .place) place
@@ -87,6 +89,7 @@ holds (tight s) =
     && (sameSaid (readSaid (reading s (buffer n))) 0 n
     && (sameSaid (drawSaid (drawing s (buffer (k - 1)))) 21 0 && sameSaid (drawSaid (drawing s (buffer k))) 0 (length (records 16 s))))
 holds (packs r b) = same (bytes (recBits r)) b
+holds (lays ku p u) = eqb (upper ku p) u
 
 all : List Fact → Bool
 all [] = true
@@ -156,6 +159,15 @@ films =
     ∷ across 2 5 32 48 ∷ upright 2 4 48 5 ∷ upright 3 4 64 5 ∷ across 3 5 64 112 ∷ upright 3 4 112 5 ∷ [])
     ∷ []
 
+-- document 01's table of u, its filled cells: a line for each Ku from 0, in it a number for each p from 1
+table : List Fact
+table =
+    lays 0 1 0
+    ∷ lays 1 1 1 ∷ lays 1 2 1
+    ∷ lays 2 1 1 ∷ lays 2 2 2 ∷ lays 2 3 2
+    ∷ lays 3 1 1 ∷ lays 3 2 2 ∷ lays 3 3 3 ∷ lays 3 4 3
+    ∷ []
+
 -- each cause of a refused sheet: 11, 12, 13, 15, 16, the three limits, 18, 19; then 14 and 21
 causes : List Fact
 causes =
@@ -175,6 +187,6 @@ causes =
     ∷ tight (0x14 ∷ 0x04 ∷ 0x00 ∷ 0x08 ∷ 0x60 ∷ [])
     ∷ []
 
-specimens-hold : T (all (specimens ++ (films ++ causes)))
-unfolding pick tabulate every least put cut keep andThen orElse isNone settle before has joined home later kindOf nodeAt nodes lone limits met fits counted stands next kind step run positions choices firstFrom also way empty first failing digits val pack unpack takes code kindIn entries entryBits size padding sheetBits sheet upperOf lowerOf countOf entryAt entriesOf paddingOf begun labelled labels rowOf uppers upper heightAt target ran wall bent drawn climb sink gap opened closed ending draw records recBits filmBytes wrongCount head room broken faultAt left scan leftOpen tail middle judge limitNumber faultSaid routeSaid readSaid drawSaid written firstLone refusal outcome routing firstSheet cleared workAfter sheetAfter reading rowAfter samePins agrees drawing sameSaid same fields copies once buffer holds all specimens films causes
+specimens-hold : T (all (specimens ++ (films ++ (table ++ causes))))
+unfolding pick tabulate every least put cut keep andThen orElse isNone settle before has joined home later kindOf nodeAt nodes lone limits met fits counted stands next kind step run positions choices firstFrom also way empty first failing digits val pack unpack takes code kindIn entries entryBits size padding sheetBits sheet upperOf lowerOf countOf entryAt entriesOf paddingOf begun labelled labels rowOf upper heightAt target ran wall bent drawn climb sink gap opened closed ending draw records recBits filmBytes wrongCount head room broken faultAt left scan leftOpen tail middle judge limitNumber faultSaid routeSaid readSaid drawSaid written firstLone refusal outcome routing firstSheet cleared workAfter sheetAfter reading rowAfter samePins agrees drawing sameSaid same fields copies once buffer holds all specimens films table causes
 specimens-hold = tt

@@ -2,6 +2,7 @@
 --
 -- A height is a level plus 4, as the film's fields have it: the axis is 4, upper tracks are above it, lower ones below. Columns
 -- count from 0, and the pitch, the columns from one node to the next, is a parameter: 16 in document 01. "Film" is its own term.
+-- u is given by request 3 of document 02.
 use mathlib.Core.Bool.{Bool, true, false}
 use mathlib.Core.List.{List, [], _∷_, _++_}
 use Prim.Native.Nat.{ℕ, suc, _+_, _-_, _*_, min, max}
@@ -15,12 +16,9 @@ use Rattle.rules.specs.Sheet.{kindIn, begun, Entry, entry, upperOf, entr
 abbrev pub axis : ℕ
 axis = 4
 
--- u, the number of wires laid in the upper street: a line for each Ku from 0, in it a number for each p from 1; blank cells are not read
-unfoldable pub uppers : List (List ℕ)
-uppers = (0 ∷ []) ∷ (1 ∷ 1 ∷ []) ∷ (1 ∷ 2 ∷ 2 ∷ []) ∷ (1 ∷ 2 ∷ 3 ∷ 3 ∷ []) ∷ []
-
+-- u, the number of wires laid in the upper street: the smaller of p and Ku
 unfoldable pub upper : (ku p : ℕ) → ℕ
-upper ku p = getD (getD uppers ku []) (p - 1) 0
+upper ku p = min p ku
 
 -- the height of the wire at position q: level u − q + 1 where q ≤ u, else −(q − u)
 unfoldable pub heightAt : (u q : ℕ) → ℕ

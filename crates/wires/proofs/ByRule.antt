@@ -7,7 +7,7 @@ use Prim.Native.Nat.{ℕ, suc, _+_, _-_, _*_, _≤_, _<_, min, max}
 use native.Mathlib.Omega.{arith}
 use Rattle.rules.specs.Sheet.{Entry, labels, upperOf, lowerOf, entriesOf}
 use Rattle.rules.specs.Judgement.{judge}
-use Rattle.rules.specs.Film.{Rec, across, upright, Wire, axis, upper, wall, draw, records}
+use Rattle.rules.specs.Film.{Rec, across, upright, Wire, axis, wall, draw, records}
 use Rattle.rules.proofs.Legal.{Legal}
 use Rattle.rules.proofs.GivenBack.{length-labels}
 use Rattle.wires.specs.Levels.{own, level, Longest, Over, Ruled, run, move, stub, ByRule}
@@ -23,16 +23,15 @@ is-stub : {x l c h : ℕ} (w : Wire) (y : ℕ) → x ≡ w .net → l ≡ min ax
 unfolding wall
 is-stub w y e u g v = cc
 
-module _ (pitch ku kl : ℕ) (wide : ku + kl < pitch) (deep : kl ≤ axis) (law : (a : ℕ) → a ≤ ku → upper ku (suc a) ≡ min (suc a) ku)
-    {es : List Entry} (legal : Legal ku kl 0 es) where
+module _ (pitch ku kl : ℕ) (wide : ku + kl < pitch) (deep : kl ≤ axis) {es : List Entry} (legal : Legal ku kl 0 es) where
   abbrev film : List Rec
   film = draw pitch ku 0 0 [] es
 
   parts : Steps ku kl 0 [] film
-  parts = steps (film-trace pitch ku kl wide deep law legal)
+  parts = steps (film-trace pitch ku kl wide deep legal)
 
   heights : (c x h : ℕ) → Over film x c h ↔ (level pitch ku es x c ≡ some h)
-  heights = film-levels pitch ku kl wide deep law legal
+  heights = film-levels pitch ku kl wide deep legal
 
   -- a horizontal is a longest run
   is-longest : (x h l r : ℕ) → List·Memᴰ (across x h l r) film → Longest (level pitch ku es x) h l r
@@ -83,7 +82,7 @@ module _ (pitch ku kl : ℕ) (wide : ku + kl < pitch) (deep : kl ≤ axis) (law 
 
   is-ruled : (r : Rec) → List·Memᴰ r film → Ruled pitch ku es r
   is-ruled (across x h l r) m = run (is-longest x h l r m)
-  is-ruled (upright x l c h) m = ruled-upright x l c h (uprights (film-trace pitch ku kl wide deep law legal) none-open x l c h m)
+  is-ruled (upright x l c h) m = ruled-upright x l c h (uprights (film-trace pitch ku kl wide deep legal) none-open x l c h m)
 
   ruled-is : {r : Rec} → Ruled pitch ku es r → List·Memᴰ r film
   ruled-is (run {x} {h} {l} {r} g) = longest-is x h l r g
@@ -92,7 +91,7 @@ module _ (pitch ku kl : ℕ) (wide : ku + kl < pitch) (deep : kl ≤ axis) (law 
       let h≡ : h ≡ max b a = omega arith in
       Memᴰ·cast (ap₂ (λ y z. upright x y (suc c) z) l≡ h≡) (turns parts (none-open {ku = ku} {kl = kl} .once) x c a b (heights c x a .1 p) (heights (suc c) x b .1 q) d)
   ruled-is (stub i q e g u v) =
-      let t = joins.stub (film-trace pitch ku kl wide deep law legal) i i (omega arith) (omega (arith, length-labels 0 [] es)) in
+      let t = joins.stub (film-trace pitch ku kl wide deep legal) i i (omega arith) (omega (arith, length-labels 0 [] es)) in
       Memᴰ·cast (is-stub (t .0) (pitch * i) (e ∙ sym (t .2)) (u ∙ ap (min axis) (sym (t .3))) g (v ∙ ap (max axis) (sym (t .3)))) (t .1)
 
   pub by-rule : ByRule pitch ku es film
@@ -102,9 +101,9 @@ module _ (pitch ku kl : ℕ) (wide : ku + kl < pitch) (deep : kl ≤ axis) (law 
 module _ (s : List ℕ) (accepted : judge s ≡ none) where
   pub sheet-by-rule : ByRule 16 (upperOf s) (entriesOf s) (records 16 s)
   unfolding records
-  sheet-by-rule = let p = sheet-legal s accepted in by-rule 16 (upperOf s) (lowerOf s) (p .wide) (p .deep) (p .law) (p .legal)
+  sheet-by-rule = let p = sheet-legal s accepted in by-rule 16 (upperOf s) (lowerOf s) (p .wide) (p .deep) (p .legal)
 
   -- over every unit stretch
   pub sheet-levels : (c x h : ℕ) → Over (records 16 s) x c h ↔ (level 16 (upperOf s) (entriesOf s) x c ≡ some h)
   unfolding records
-  sheet-levels = let p = sheet-legal s accepted in film-levels 16 (upperOf s) (lowerOf s) (p .wide) (p .deep) (p .law) (p .legal)
+  sheet-levels = let p = sheet-legal s accepted in film-levels 16 (upperOf s) (lowerOf s) (p .wide) (p .deep) (p .legal)

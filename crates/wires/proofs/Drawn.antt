@@ -2,7 +2,7 @@
 use mathlib.Core.Path.{_≡_, refl, sym, ap, _∙_, subst, subst₂}
 use mathlib.Core.List.{List, [], _∷_, _++_}
 use mathlib.Core.Logic.{_≢_, _⊎_, inl, inr}
-use Prim.Native.Nat.{ℕ, zero, suc, _+_, _-_, _*_, _≤_, _<_, min}
+use Prim.Native.Nat.{ℕ, zero, suc, _+_, _-_, _*_, _≤_, _<_}
 use native.Mathlib.Nat.{eq-zero-or-pos}
 use native.Mathlib.Omega.{arith}
 use lib.ListN.{length, getD, length-map}
@@ -14,6 +14,7 @@ use Rattle.rules.specs.Sheet.{kindIn, Entry, entry, begun, labelled, labels}
 use Rattle.rules.specs.Judgement.{left}
 use Rattle.rules.specs.Film.{Rec, Wire, axis, upper, heightAt, target, wall, climb, sink, gap, opened, closed, ending, draw}
 use Rattle.rules.proofs.Fits.{Fits}
+use Rattle.rules.proofs.Levels.{upper-min}
 use Rattle.rules.proofs.Lists.{length-put, cut-put}
 use Rattle.rules.proofs.Open.{one-same, one-other, times}
 use Rattle.rules.proofs.Renamed.{put-map, cut-map}
@@ -197,7 +198,7 @@ unfoldable pub from : (pitch i : ℕ) → ℕ
 from pitch zero = 0
 from pitch (suc i) = suc (pitch * i)
 
-module _ (pitch ku kl : ℕ) (wide : ku + kl < pitch) (deep : kl ≤ axis) (law : (a : ℕ) → a ≤ ku → upper ku (suc a) ≡ min (suc a) ku) where
+module _ (pitch ku kl : ℕ) (wide : ku + kl < pitch) (deep : kl ≤ axis) where
   -- the moves of the gap before node i
   gap-first : (t : ℕ → ℕ) (i : ℕ) (ws : List Wire) {row hs : List ℕ} {film : List Rec} → (i ≡ 0 → ws ≡ []) → length ws < pitch → Falling ws
       → Falls t 0 (length ws) → ((j : ℕ) → 0 ≤ j → j < 0 + length ws → Track ku kl (t j))
@@ -242,7 +243,7 @@ module _ (pitch ku kl : ℕ) (wide : ku + kl < pitch) (deep : kl ≤ axis) (law 
       l≡ = sym (length-nets ws′) ∙ ap length n≡ ∙ length-nets ws ∙ e
 
       laid : Laid ku kl u a (counted k b)
-      laid = record { law = law a (omega (arith, h .upper)); fits = h; deep = deep }
+      laid = record { law = upper-min ku a; fits = h; deep = deep }
 
       sv : Settled u 0 vs
       sv = settled k u a n (pitch * i) ws′ (rw l≡ (h .high)) (gap-reached (target k u a) (pitch * (i - 1)) ws)

@@ -3,16 +3,15 @@
 use mathlib.Core.Path.{_≡_, refl, sym, _∙_}
 use mathlib.Core.List.{List, []}
 use mathlib.Core.Option.{none}
-use Prim.Native.Nat.{ℕ, suc, _+_, _*_, _≤_, _<_, min}
+use Prim.Native.Nat.{ℕ, _+_, _*_, _≤_, _<_}
 use native.Mathlib.Omega.{arith}
 use lib.ListN.{getD}
 use Rattle.rules.specs.Sheet.{Entry, labels, upperOf, lowerOf, entriesOf, rowOf}
 use Rattle.rules.specs.Judgement.{judge}
-use Rattle.rules.specs.Film.{Wire, axis, upper, wall, draw, records}
+use Rattle.rules.specs.Film.{Wire, axis, wall, draw, records}
 use Rattle.rules.specs.WireRules.{netOf, On, WireRules, Tidy}
 use Rattle.rules.proofs.Open.{times}
 use Rattle.rules.proofs.Legal.{Legal}
-use Rattle.rules.proofs.Levels.{upper-min}
 use Rattle.rules.proofs.Accepted.{judge-passed, takes-le}
 use Rattle.wires.specs.Levels.{own}
 use Rattle.wires.proofs.Among.{nil}
@@ -32,12 +31,11 @@ stub-on : (c : ℕ) (w : Wire) → On (wall c axis w) c axis × (netOf (wall c a
 unfolding wall On netOf
 stub-on c w = ((refl, omega arith, omega arith), refl)
 
-module _ (pitch ku kl : ℕ) (wide : ku + kl < pitch) (deep : kl ≤ axis) (law : (a : ℕ) → a ≤ ku → upper ku (suc a) ≡ min (suc a) ku)
-    {es : List Entry} (legal : Legal ku kl 0 es) where
+module _ (pitch ku kl : ℕ) (wide : ku + kl < pitch) (deep : kl ≤ axis) {es : List Entry} (legal : Legal ku kl 0 es) where
   pub film-trace : Trace pitch ku kl 0 0 [] (labels 0 [] es) (own ku es) (draw pitch ku 0 0 [] es)
   unfolding from times
   film-trace =
-      draw-trace pitch ku kl wide deep law legal 0 0 [] refl (λ e. refl) bare
+      draw-trace pitch ku kl wide deep legal 0 0 [] refl (λ e. refl) bare
       (record { once = λ x. omega arith; low = λ x t. absurd (omega arith) })
 
   film-steps : Steps ku kl 0 [] (draw pitch ku 0 0 [] es)
@@ -69,7 +67,6 @@ module _ (pitch ku kl : ℕ) (wide : ku + kl < pitch) (deep : kl ≤ axis) (law 
 pub record Sheeted (s : List ℕ) : Type 0 where
   pub wide : upperOf s + lowerOf s < 16
   pub deep : lowerOf s ≤ axis
-  pub law : (a : ℕ) → a ≤ upperOf s → upper (upperOf s) (suc a) ≡ min (suc a) (upperOf s)
   pub legal : Legal (upperOf s) (lowerOf s) 0 (entriesOf s)
 
 module _ (s : List ℕ) (accepted : judge s ≡ none) where
@@ -77,12 +74,12 @@ module _ (s : List ℕ) (accepted : judge s ≡ none) where
   sheet-legal =
       let p = judge-passed s accepted in
       let t = takes-le (upperOf s) (lowerOf s) (p .tracks) in
-      record { wide = omega arith; deep = omega arith; law = λ a h. upper-min (upperOf s) a (t .0) h; legal = p .legal }
+      record { wide = omega arith; deep = omega arith; legal = p .legal }
 
   pub sheet-rules : WireRules 16 (upperOf s) (lowerOf s) (rowOf s) (records 16 s)
   unfolding rowOf records
-  sheet-rules = let p = sheet-legal in wire-rules 16 (upperOf s) (lowerOf s) (p .wide) (p .deep) (p .law) (p .legal)
+  sheet-rules = let p = sheet-legal in wire-rules 16 (upperOf s) (lowerOf s) (p .wide) (p .deep) (p .legal)
 
   pub sheet-tidy : Tidy (upperOf s) (lowerOf s) (records 16 s)
   unfolding records
-  sheet-tidy = let p = sheet-legal in tidy 16 (upperOf s) (lowerOf s) (p .wide) (p .deep) (p .law) (p .legal)
+  sheet-tidy = let p = sheet-legal in tidy 16 (upperOf s) (lowerOf s) (p .wide) (p .deep) (p .legal)

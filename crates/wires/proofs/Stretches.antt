@@ -4,7 +4,7 @@ use mathlib.Core.Bool.{Bool, true, false}
 use mathlib.Core.List.{List, [], _∷_, _++_, List·Memᴰ, List·Memᴰ·head, List·Memᴰ·tail, List·Memᴰ·not-nil, List·Memᴰ·append-cases, Memᴰ·append-left, Memᴰ·append-right}
 use mathlib.Core.Logic.{_⊎_, inl, inr, _↔_}
 use mathlib.Core.Option.{some}
-use Prim.Native.Nat.{ℕ, suc, _+_, _-_, _*_, _≤_, _<_, min}
+use Prim.Native.Nat.{ℕ, suc, _+_, _-_, _*_, _≤_, _<_}
 use native.Mathlib.Nat.{eq-zero-or-pos}
 use native.Mathlib.Omega.{arith}
 use lib.ListN.{length, getD}
@@ -172,7 +172,7 @@ pub record State (pitch ku kl i n : ℕ) (s : Stop) (ws : List Wire) : Type 0 wh
 abbrev stopOf : (ku n : ℕ) → List ℕ → Kind → ℕ → Stop
 stopOf ku n o k a = record { laid = upper ku (suc a); there = present k a n o; onward = then-order k a n o }
 
-module _ (pitch ku kl : ℕ) (wide : ku + kl < pitch) (deep : kl ≤ axis) (law : (a : ℕ) → a ≤ ku → upper ku (suc a) ≡ min (suc a) ku) where
+module _ (pitch ku kl : ℕ) (wide : ku + kl < pitch) (deep : kl ≤ axis) where
   -- node j, where the nets o are open before it
   module _ (k : Kind) (a b j n : ℕ) (o : List ℕ) (ws : List Wire) (h : Fits ku kl (suc a) (counted k b)) (e : length ws ≡ b) (beg : Begun n (nets ws)) (same : nets ws ≡ o) where
     abbrev u : ℕ
@@ -182,7 +182,7 @@ module _ (pitch ku kl : ℕ) (wide : ku + kl < pitch) (deep : kl ≤ axis) (law 
     at = meeting k u a n (pitch * (j - 1)) (pitch * j) ws
 
     passes : Passing ku kl k u a b n (pitch * (j - 1)) (pitch * j) ws
-    passes = passing pitch ku kl wide deep law k a b j n ws h e beg
+    passes = passing pitch ku kl wide deep k a b j n ws h e beg
 
     there≡ : nets at ≡ present k a n o
     there≡ = opened-nets k n (heightAt u (suc a)) (pitch * j) a (coming k u a (pitch * (j - 1)) ws) ∙ ap (present k a n) (passes .same ∙ same)
@@ -355,11 +355,11 @@ module _ (pitch ku kl : ℕ) (wide : ku + kl < pitch) (deep : kl ≤ axis) (law 
           let st′ = next-state k a b i n s ws h e st in
           let p = pass k a b i n s ws h e st in
           near k a b i n s ws h e st
-          (node-on pitch ku kl wide deep law f l (suc i) n ws (st .begun) p
-          (draw-trace pitch ku kl wide deep law l (suc (suc i)) (begun k n) later (p .left-open) (λ (r : suc (suc i) ≡ 0). absurd (omega arith)) (st′ .falls) (st′ .begun))
+          (node-on pitch ku kl wide deep f l (suc i) n ws (st .begun) p
+          (draw-trace pitch ku kl wide deep l (suc (suc i)) (begun k n) later (p .left-open) (λ (r : suc (suc i) ≡ 0). absurd (omega arith)) (st′ .falls) (st′ .begun))
           (pitch * suc i) (omega arith))
           c d c≡ q ss y z
-          (steps (draw-trace pitch ku kl wide deep law (then f≢ h l) (suc i) n ws e (λ (r : suc i ≡ 0). absurd (omega arith)) (st .falls) (st .begun)))
+          (steps (draw-trace pitch ku kl wide deep (then f≢ h l) (suc i) n ws e (λ (r : suc i ≡ 0). absurd (omega arith)) (st .falls) (st .begun)))
       go (inr q) ih =
           let r = far k a b i n s ws h e st _ rest c y z (omega arith) in
           let v = ih (omega arith) in
