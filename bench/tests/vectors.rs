@@ -6,9 +6,9 @@ mod common;
 use common::{agrees, draw, draw_at_all_lengths, hex, read, records, route, said, Random, Record};
 use niraflue::{film_of, routed, row_of, sheet_size, work_size, Said};
 
-const ROUTER: &str = include_str!("../data/router.txt");
+const ROUTER: &str = include_str!("../../crates/vectors/data/router.txt");
 const ROWS: &str = include_str!("../rows.txt");
-const SHEETS: &str = include_str!("../data/sheets.txt");
+const SHEETS: &str = include_str!("../../crates/vectors/data/sheets.txt");
 
 fn from_hex(text: &str) -> Vec<u8> {
     if text == "-" {
