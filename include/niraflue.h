@@ -61,10 +61,13 @@ uint64_t niraflue_route(const uint8_t *row, size_t row_len, uint8_t ku, uint8_t 
  *  14  row has under n bytes
  *  15  a kind field is 3; place: the node
  *  16  p is over b; place: the node
- *  17  one of the three limits is broken; place: the node
+ *  17  p - 1 is over Ku, the upper street overflows; place: the node
+ *  30  b - p is over Kl, the lower street overflows; place: the node
+ *  31  b is over Ku + Kl, both streets together overflow; place: the node
  *  18  nets are open at the end; place n
  *  19  the padding is not zero
- * 15, 16 and 17 are tested node by node, leftmost first. After 11 to 19 all of row is untouched. */
+ * At a node, p is the position of its net, 1 at the top, and b the number of open nets, its own among them. 15, 16, 17, 30 and 31 are tested node by node,
+ * leftmost first. After a refusal all of row is untouched. */
 uint64_t niraflue_read(const uint8_t *sheet, size_t sheet_len, uint8_t *row, size_t row_len);
 
 /* Whether a sheet passes the reader's tests other than 14 and joins the same nodes as the row, of the same length. */
@@ -72,7 +75,7 @@ bool niraflue_agrees(const uint8_t *row, size_t row_len, const uint8_t *sheet, s
 
 /* Draws the wires of a sheet.
  *   0  accepted; place: the number of records. They fill the start of `film`, in an order that is left free; the rest of it is untouched.
- *  11 to 19 without 14, as the reader
+ *  11 to 19 without 14, with 30 and 31, as the reader and in its order
  *  21  film has under 5 bytes for each record
  * After a refusal all of film is untouched.
  * A record has 40 bits, most significant first. Horizontal: 0, net (8 bits), level + 4 (4), left column (13), right column (13), one zero bit.

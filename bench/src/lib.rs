@@ -63,7 +63,9 @@ pub const fn film_bound(n: usize) -> usize {
 /// | 14 | row buffer under the node count | 0 |
 /// | 15 | kind field 3 | node |
 /// | 16 | position beyond the order | node |
-/// | 17 | a street limit broken | node |
+/// | 17 | more nets above than upper tracks | node |
+/// | 30 | more nets below than lower tracks | node |
+/// | 31 | more nets than tracks in both streets | node |
 /// | 18 | a net without an end | node count |
 /// | 19 | padding not zero | 0 |
 /// | 21 | film under [`RECORD_SIZE`] bytes a record | 0 |
@@ -110,7 +112,9 @@ impl Said {
             14 => "the row buffer is too short",
             15 => "a kind field is 3",
             16 => "a position is beyond the order",
-            17 => "a street limit is broken",
+            17 => "the upper street has too few tracks",
+            30 => "the lower street has too few tracks",
+            31 => "both streets together have too few tracks",
             18 => "a net has no end",
             19 => "the padding is not zero",
             21 => "the film buffer is too short",
@@ -154,7 +158,7 @@ pub fn route(row: &[u8], ku: u8, kl: u8, work: &mut [u8], sheet: &mut [u8]) -> S
 /// Reads the row of `sheet` into `row`, its nets labelled 0, 1, 2 in the order of their first nodes.
 ///
 /// Accepted: the labels fill the start of `row`, the rest of it is as it was, and the place is the
-/// node count. Refused by 11 to 19: `row` is as it was.
+/// node count. Refused by 11 to 19, 30 or 31: `row` is as it was.
 pub fn read(sheet: &[u8], row: &mut [u8]) -> Said {
     // SAFETY: each pointer and length is those of one live slice; the mutable slice overlaps
     // nothing, by its borrow; the call keeps no pointer.
@@ -173,8 +177,8 @@ pub fn agrees(row: &[u8], sheet: &[u8]) -> bool {
 /// Draws the wires of `sheet` into `film`, [`RECORD_SIZE`] bytes a record.
 ///
 /// Accepted: the records, each once and in no stated order, fill the start of `film`, the rest of
-/// it is as it was, and the place is their number. Refused by 11 to 13, 15 to 19 or 21: `film` is
-/// as it was.
+/// it is as it was, and the place is their number. Refused by 11 to 13, 15 to 19, 21, 30 or 31:
+/// `film` is as it was.
 pub fn draw(sheet: &[u8], film: &mut [u8]) -> Said {
     // SAFETY: each pointer and length is those of one live slice; the mutable slice overlaps
     // nothing, by its borrow; the call keeps no pointer.

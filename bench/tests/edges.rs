@@ -1,4 +1,5 @@
-//! Document 01's specimens S1 to S12 and its edges, answered by the library and by the reference.
+//! Document 01's specimens S1 to S12, S12 with request 6's number, and the edges, answered by the
+//! library and by the reference.
 
 mod common;
 
@@ -67,7 +68,7 @@ fn s11_and_s12_are_refused_by_reader_drawer_and_agreement_test() {
     let mut random = Random::new(11);
     let specimens: [([u8; 4], Said); 2] = [
         ([0x10, 0x02, 0x02, 0x01], said(19, 0)),
-        ([0x10, 0x02, 0x00, 0x00], said(17, 2)),
+        ([0x10, 0x02, 0x00, 0x00], said(30, 2)),
     ];
     for (sheet, refusal) in specimens {
         assert_eq!(read(&mut random, &sheet, 2).0, refusal);
@@ -78,6 +79,27 @@ fn s11_and_s12_are_refused_by_reader_drawer_and_agreement_test() {
         assert_eq!(film_of(&sheet), Err(refusal));
     }
     assert_eq!(read(&mut random, &specimens[0].0, 1).0, said(14, 0));
+}
+
+#[test]
+fn each_limit_has_its_number() {
+    let mut random = Random::new(19);
+    let specimens: [(&[u8], Said); 7] = [
+        // One limit broken.
+        (&[0x08, 0x04, 0x00, 0x18, 0x20], said(17, 2)),
+        (&[0x3c, 0x08, 0, 0, 0, 0, 0, 0x20], said(30, 5)),
+        (&[0x14, 0x04, 0x00, 0x00, 0x60], said(31, 3)),
+        // Three Bs under 1/1, the third at p = 4, 3, 1, 2: the sum is broken at each.
+        (&[0x14, 0x03, 0x00, 0x00, 0xc0], said(16, 3)),
+        (&[0x14, 0x03, 0x00, 0x00, 0x80], said(17, 3)),
+        (&[0x14, 0x03, 0x00, 0x00, 0x00], said(30, 3)),
+        (&[0x14, 0x03, 0x00, 0x00, 0x40], said(31, 3)),
+    ];
+    for (sheet, refusal) in specimens {
+        assert_eq!(read(&mut random, sheet, 8).0, refusal, "{}", hex(sheet));
+        assert_eq!(draw(&mut random, sheet, 100).0, refusal, "{}", hex(sheet));
+        assert!(!agrees(&mut random, b"aabb", sheet), "{}", hex(sheet));
+    }
 }
 
 #[test]
@@ -236,4 +258,12 @@ fn a_row_of_any_length_is_refused_without_its_buffers() {
 fn refusals_speak() {
     let refusal = routed(b"abab", 2, 0).unwrap_err();
     assert_eq!(refusal.to_string(), "6 at 3: the row has no placing");
+    for (third, words) in [
+        (0x80, "17 at 3: the upper street has too few tracks"),
+        (0x00, "30 at 3: the lower street has too few tracks"),
+        (0x40, "31 at 3: both streets together have too few tracks"),
+    ] {
+        let refusal = row_of(&[0x14, 0x03, 0x00, 0x00, third]).unwrap_err();
+        assert_eq!(refusal.to_string(), words);
+    }
 }

@@ -1,5 +1,5 @@
-//! The outside vectors, which come from an implementation of document 01 that shares no text with
-//! this repository, and the rows to measure on, answered by the library and by the reference.
+//! The outside vectors, which come from an implementation of documents 01 and 02 that shares no text
+//! with this repository, and the rows to measure on, answered by the library and by the reference.
 
 mod common;
 
@@ -83,7 +83,7 @@ fn sheets_get_the_rows_and_films_of_the_outside_vectors() {
         let drawn = film_of(&sheet).map(|film| records(&film));
         assert_eq!(drawn, given(to_film), "{line}");
     }
-    assert_eq!(SHEETS.lines().count(), 533);
+    assert_eq!(SHEETS.lines().count(), 623);
 }
 
 #[test]

@@ -1,5 +1,5 @@
-//! Document 01 written a second time, in plain Rust that shares nothing with the proved library, so
-//! that every byte of every buffer can be compared.
+//! The rules of documents 01 and 02 written a second time, in plain Rust that shares nothing with the
+//! proved library, so that every byte of every buffer can be compared.
 //!
 //! The four functions have the arguments and answers of the library's own. Speed is no aim here.
 
@@ -18,9 +18,18 @@ struct Streets {
 }
 
 impl Streets {
-    /// The three limits at a node whose net stands at position `p`, from 1, of `b`.
-    fn allow(self, p: usize, b: usize) -> bool {
-        p - 1 <= self.upper && b - p <= self.lower && b <= self.upper + self.lower
+    /// The number of the first of the three limits that is broken at a node whose net stands at
+    /// position `p`, from 1, of `b`.
+    fn broken(self, p: usize, b: usize) -> Option<u32> {
+        if p - 1 > self.upper {
+            Some(17)
+        } else if b - p > self.lower {
+            Some(30)
+        } else if b > self.upper + self.lower {
+            Some(31)
+        } else {
+            None
+        }
     }
 }
 

@@ -102,7 +102,7 @@ impl Search<'_> {
         match self.kinds[at] {
             Kind::Begin => {
                 let b = order.len() + 1;
-                let legal = (1..=b).filter(|&p| self.streets.allow(p, b));
+                let legal = (1..=b).filter(|&p| self.streets.broken(p, b).is_none());
                 legal.map(|p| (p, with(order, p, label))).collect()
             }
             Kind::Middle => self.follows(order, label, order.to_vec()),
@@ -113,7 +113,7 @@ impl Search<'_> {
     /// The one position of an open net, if it is within the limits.
     fn follows(&self, order: &[u8], label: u8, after: Vec<u8>) -> Vec<(usize, Vec<u8>)> {
         let before = order.iter().take_while(|&&net| net != label).count();
-        if self.streets.allow(before + 1, order.len()) {
+        if self.streets.broken(before + 1, order.len()).is_none() {
             vec![(before + 1, after)]
         } else {
             Vec::new()

@@ -59,7 +59,7 @@ impl Placing {
     }
 }
 
-/// The placing of a sheet, or the first of the causes 11 to 19 that holds; 14 is tested against
+/// The placing of a sheet, or the first of the reader's causes that holds; 14 is tested against
 /// `room` where there is one.
 pub fn inspected(sheet: &[u8], room: Option<usize>) -> Result<Placing, Said> {
     let (streets, n) = head(sheet)?;
@@ -95,7 +95,7 @@ fn head(sheet: &[u8]) -> Result<(Streets, usize), Said> {
     Ok((streets, n))
 }
 
-/// The nodes, tested from the left for 15, 16 and 17, and then 18.
+/// The nodes, tested from the left for 15, 16, 17, 30 and 31, and then 18.
 fn touches(sheet: &[u8], streets: Streets, n: usize) -> Result<Vec<Touch>, Said> {
     let mut touches = Vec::new();
     let mut open = Vec::new();
@@ -108,8 +108,8 @@ fn touches(sheet: &[u8], streets: Streets, n: usize) -> Result<Vec<Touch>, Said>
         if p > b {
             return Err(refused(16, node));
         }
-        if !streets.allow(p, b) {
-            return Err(refused(17, node));
+        if let Some(number) = streets.broken(p, b) {
+            return Err(refused(number, node));
         }
         if kind == Kind::Begin {
             open.insert(p - 1, nets);

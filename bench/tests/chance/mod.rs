@@ -241,7 +241,7 @@ fn set(bytes: &mut [u8], start: usize, width: usize, value: usize) {
 pub fn damaged(random: &mut Random, sheet: &[u8]) -> Vec<u8> {
     let mut sheet = sheet.to_vec();
     let length = sheet.len();
-    match random.below(9) {
+    match random.below(11) {
         0 => sheet[random.below(length)] ^= 1 << random.below(8),
         1 => sheet[random.below(length)] = random.below(256) as u8,
         2 => sheet.truncate(random.below(length)),
@@ -258,6 +258,7 @@ pub fn damaged(random: &mut Random, sheet: &[u8]) -> Vec<u8> {
             sheet[2..].copy_from_slice(&body);
         }
         6 => damage_head(random, &mut sheet),
+        7..=8 => narrow(random, &mut sheet),
         _ => damage_nodes(random, &mut sheet),
     }
     sheet
@@ -275,6 +276,16 @@ fn damage_head(random: &mut Random, sheet: &mut Vec<u8>) {
                 sheet.resize(sheet_size(n), 0);
             }
         }
+    }
+}
+
+/// One track less in a street that has any, so that its limit or the sum may be broken.
+fn narrow(random: &mut Random, sheet: &mut [u8]) {
+    let (upper, lower) = (usize::from(sheet[0] >> 4), usize::from(sheet[0] >> 2 & 3));
+    if lower == 0 || upper > 0 && random.below(2) == 0 {
+        set(sheet, 0, 4, upper - 1);
+    } else {
+        set(sheet, 4, 2, lower - 1);
     }
 }
 

@@ -72,8 +72,8 @@ fn limit_number(l: Limits) -> u32
     match l {
         Limits::Met => 0,
         Limits::Upper => 17,
-        Limits::Lower => 17,
-        Limits::Sum => 17,
+        Limits::Lower => 30,
+        Limits::Sum => 31,
     }
 }
 

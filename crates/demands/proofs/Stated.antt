@@ -4,7 +4,7 @@ use mathlib.Core.Bool.{Bool, true, false, not}
 use mathlib.Core.List.{List, [], _∷_, _++_, append-assoc, append-nil}
 use mathlib.Core.Logic.{_≢_, _⊎_, inl, inr}
 use mathlib.Core.Option.{Option, none, some, Option·map}
-use Prim.Native.Nat.{ℕ, suc, _+_, _*_, _≤_}
+use Prim.Native.Nat.{ℕ, suc, _+_, _-_, _*_, _≤_}
 use native.Mathlib.Omega.{arith}
 use lib.ListN.{length}
 use lib.Dec.{leb, ltb, eqb}
@@ -17,7 +17,7 @@ use Rattle.rules.specs.declared.Reading.{Reading}
 use Rattle.rules.specs.declared.Drawing.{Drawing}
 use Rattle.rules.specs.Basic.{pick, keep, orElse, settle, isNone}
 use Rattle.rules.specs.Row.{nodes}
-use Rattle.rules.specs.Street.{counted, limits, met, first, failing}
+use Rattle.rules.specs.Street.{counted, limits, first, failing}
 use Rattle.rules.specs.Sheet.{takes, kindIn, size, Entry, entry, upperOf, lowerOf, countOf, entriesOf, rowOf}
 use Rattle.rules.specs.Film.{records}
 use Rattle.rules.specs.Judgement.{wrongCount, head, room, broken, faultAt, left, scan, tail, middle, judge}
@@ -56,13 +56,14 @@ module _ {A : Type 0} (said : A → Said) where
 
 -- the causes of a sheet, before those of r
 module _ (cs : List Cause) (fine : Said) where
-  broken-said : (l : Limits) (i : ℕ) (r : Said) → r ≡ firstCause cs fine
-      → saidOr faultSaid (broken l i) r ≡ firstCause (cause 17 i (not (met l)) ∷ cs) fine
-  unfolding saidOr broken faultSaid limitNumber met firstCause pick
-  broken-said Met i r e = e
-  broken-said Upper i r e = refl
-  broken-said Lower i r e = refl
-  broken-said Sum i r e = refl
+  -- the first limit that is broken, of three tests
+  broken-said : (u l s : Bool) (i : ℕ) (r : Said) → r ≡ firstCause cs fine
+      → saidOr faultSaid (broken (pick u Upper (pick l Lower (pick s Sum Met))) i) r ≡ firstCause (cause 17 i u ∷ cause 30 i l ∷ cause 31 i s ∷ cs) fine
+  unfolding saidOr broken faultSaid limitNumber firstCause pick
+  broken-said true l s i r e = refl
+  broken-said false true s i r e = refl
+  broken-said false false true i r e = refl
+  broken-said false false false i r e = e
 
   module _ (s : List ℕ) where
     head-said : (r : Said) → r ≡ firstCause cs fine → saidOr faultSaid (head s) r ≡ firstCause (headCauses s ++ cs) fine
@@ -75,6 +76,11 @@ module _ (cs : List Cause) (fine : Said) where
     unfolding tail endCauses faultSaid
     tail-said r e =
         then-test faultSaid _ (Open (countOf s)) 18 (countOf s) _ _ fine r refl (by-test faultSaid _ Padding 19 0 cs fine r refl e)
+
+-- the three tests of a net with a above it, of c
+three-tests : (ku kl a c : ℕ) → limits ku kl (suc a) c ≡ pick (ltb ku a) Upper (pick (ltb kl (c - suc a)) Lower (pick (ltb (ku + kl) c) Sum Met))
+unfolding limits
+three-tests ku kl a c = let e : suc a - 1 ≡ a = omega arith in rw e
 
 module _ (cs : List Cause) (fine : Said) (ku kl : ℕ) where
   scan-said : (i b : ℕ) (es : List Entry) (r : Said) → r ≡ firstCause cs fine
@@ -92,7 +98,8 @@ module _ (cs : List Cause) (fine : Said) (ku kl : ℕ) where
       saidOr-or faultSaid (orElse k (orElse p l)) next r
       ∙ then-test faultSaid (eqb f 3) (NoKind i) 15 i (orElse p l) _ fine after refl
       (then-test faultSaid (leb c a) (Position i) 16 i l _ fine after refl
-      (broken-said rest fine (limits ku kl (suc a) c) i after (scan-said (suc i) (left (kindIn f) b) es r e)))
+      (ap (λ (x : Limits). saidOr faultSaid (broken x i) after) (three-tests ku kl a c)
+      ∙ broken-said rest fine (ltb ku a) (ltb kl (c - suc a)) (ltb (ku + kl) c) i after (scan-said (suc i) (left (kindIn f) b) es r e)))
 
 module _ (cs : List Cause) (fine : Said) (s : List ℕ) where
   body-said : (r : Said) → r ≡ firstCause cs fine → saidOr faultSaid (orElse (middle s) (tail s)) r ≡ firstCause (bodyCauses s ++ cs) fine

@@ -1,12 +1,12 @@
--- Document 01's table of causes, in the order in which each entry point tests them.
+-- Document 01's table of causes, with request 6's limits, in the order in which each entry point tests them.
 use mathlib.Core.Bool.{Bool, not, _||_}
 use mathlib.Core.List.{List, [], _∷_, _++_}
-use Prim.Native.Nat.{ℕ, suc, _+_, _*_}
+use Prim.Native.Nat.{ℕ, suc, _+_, _-_, _*_}
 use lib.ListN.{length}
 use lib.Dec.{leb, ltb, eqb}
 use Rattle.rules.specs.Basic.{pick, isNone}
 use Rattle.rules.specs.Row.{nodes}
-use Rattle.rules.specs.Street.{counted, limits, met, first, failing}
+use Rattle.rules.specs.Street.{counted, first, failing}
 use Rattle.rules.specs.Sheet.{takes, kindIn, size, Entry, entry, upperOf, lowerOf, countOf, entriesOf, paddingOf}
 use Rattle.rules.specs.Film.{records}
 use Rattle.rules.specs.Judgement.{wrongCount, left, leftOpen}
@@ -41,14 +41,16 @@ headCauses s =
     ∷ cause 13 0 (not (eqb (length s) (size (countOf s))))
     ∷ []
 
--- of its nodes from i on, from 1, with b nets open before node i: 15, 16, 17, leftmost node first
+-- of its nodes from i on, from 1, with b nets open before node i: 15, 16, 17, 30, 31, leftmost node first
 unfoldable pub nodeCauses : (ku kl i b : ℕ) → List Entry → List Cause
 nodeCauses ku kl i b [] = []
 nodeCauses ku kl i b (entry f a ∷ es) =
     let c = counted (kindIn f) b in
     cause 15 i (eqb f 3)
     ∷ cause 16 i (leb c a)
-    ∷ cause 17 i (not (met (limits ku kl (suc a) c)))
+    ∷ cause 17 i (ltb ku a)  -- p − 1 over Ku
+    ∷ cause 30 i (ltb kl (c - suc a))  -- b − p over Kl
+    ∷ cause 31 i (ltb (ku + kl) c)  -- b over Ku + Kl
     ∷ nodeCauses ku kl (suc i) (left (kindIn f) b) es
 
 -- of its end, 18 and 19
@@ -59,7 +61,7 @@ endCauses s = cause 18 (countOf s) (not (eqb (leftOpen 0 (entriesOf s)) 0)) ∷ 
 unfoldable pub bodyCauses : (s : List ℕ) → List Cause
 bodyCauses s = nodeCauses (upperOf s) (lowerOf s) 1 0 (entriesOf s) ++ endCauses s
 
--- the reader's, 11 to 19
+-- the reader's: 14 stands behind those of the head
 unfoldable pub readerCauses : (s row : List ℕ) → List Cause
 readerCauses s row = headCauses s ++ (cause 14 0 (ltb (length row) (countOf s)) ∷ bodyCauses s)
 

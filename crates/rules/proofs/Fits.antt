@@ -1,10 +1,10 @@
--- The test fits passes exactly where document 01's inequalities hold, and limits names the first of the three that is broken.
+-- The test fits passes exactly where document 01's inequalities hold; limits names the first of the three that is broken, and the sum at one p of one b only.
 use mathlib.Core.Path.{_≡_, refl}
 use mathlib.Core.Logic.{_↔_}
 use mathlib.Core.Bool.{Bool, true, false, _&&_}
-use Prim.Native.Nat.{ℕ, _+_, _-_, _≤_, _<_}
+use Prim.Native.Nat.{ℕ, suc, _+_, _-_, _≤_, _<_}
 use lib.Dec.{T, leb, ltb}
-use borrow.Author.Tests.{ltb-false, leb-true, lt-ltb, le-ltb, le-leb}
+use borrow.Author.Tests.{ltb-true, ltb-false, leb-true, lt-ltb, le-ltb, le-leb}
 use native.Mathlib.Omega.{arith}
 use Rattle.rules.specs.declared.Limits.the-variants.{Met, Upper, Lower, Sum}
 use Rattle.rules.specs.Basic.{pick}
@@ -53,6 +53,24 @@ module _ (ku kl p b : ℕ) where
   pub limits-met : limits ku kl p b ≡ Met ↔ ((p - 1 ≤ ku) × (b - p ≤ kl) × (b ≤ ku + kl))
   limits-met = (met-within, λ h. within-met (h .0) (h .1) (h .2))
 
+  -- where the upper and the lower limit hold, the sum is broken at one p of one b only
+  pub sum-broken : p - 1 ≤ ku → b - p ≤ kl → ku + kl < b → (p ≡ suc ku) × (b ≡ suc (ku + kl))
+  sum-broken h₁ h₂ h₃ = (omega arith, omega arith)
+
+  -- so that limits names it there and nowhere else
+  pub limits-sum-at : limits ku kl p b ≡ Sum ↔ ((p ≡ suc ku) × (b ≡ suc (ku + kl)))
+  unfolding limits pick
+  limits-sum-at =
+      (λ e. go (ltb ku (p - 1)) (ltb kl (b - p)) (ltb (ku + kl) b) refl refl refl e, λ h. limits-sum (omega (arith, h)) (omega (arith, h)) (omega (arith, h)))
+    where
+      go : (u l s : Bool) → ltb ku (p - 1) ≡ u → ltb kl (b - p) ≡ l → ltb (ku + kl) b ≡ s →
+          pick u Upper (pick l Lower (pick s Sum Met)) ≡ Sum → (p ≡ suc ku) × (b ≡ suc (ku + kl))
+      go true l s eu el es e = let z : _≡_ {A = ℕ} 0 1 = cc in absurd (omega arith)
+      go false true s eu el es e = let z : _≡_ {A = ℕ} 0 1 = cc in absurd (omega arith)
+      go false false false eu el es e = let z : _≡_ {A = ℕ} 0 1 = cc in absurd (omega arith)
+      go false false true eu el es e =
+          sum-broken (omega (arith, ltb-false)) (omega (arith, ltb-false)) (omega (arith, ltb-true))
+
   pub fits→ : T (fits ku kl p b) → Fits ku kl p b
   unfolding fits
   fits→ t = go (leb 1 p) (leb p b) refl refl t
@@ -65,3 +83,7 @@ module _ (ku kl p b : ℕ) where
   pub →fits : Fits ku kl p b → T (fits ku kl p b)
   unfolding fits met
   →fits f = rw (le-leb 1 p (f .low), le-leb p b (f .high), within-met (f .upper) (f .lower) (f .sum)) tt
+
+-- at a pin with no net of its own, s of b nets above it and b − s below, each within its street: b is then within both, and the sum is no limit there
+pub split-within : {ku kl s b : ℕ} → s ≤ ku → b - s ≤ kl → b ≤ ku + kl
+split-within h g = omega arith

@@ -1,4 +1,4 @@
--- S1 to S12 of document 01 hold for the definitions, and so do its table of u and some films and refusals more: antt computes each.
+-- S1 to S12 of document 01, S12 with request 6's number, hold for the definitions, and so do its table of u and some films and refusals more: antt computes each.
 use mathlib.Core.Bool.{Bool, true, false, _&&_}
 use mathlib.Core.List.{List, [], _∷_, _++_}
 use Prim.Native.Nat.{ℕ, _+_, _-_, _*_}
@@ -138,7 +138,7 @@ specimens =
     -- S11
     ∷ refused (0x10 ∷ 0x02 ∷ 0x02 ∷ 0x01 ∷ []) 19 0
     -- S12
-    ∷ refused (0x10 ∷ 0x02 ∷ 0x00 ∷ 0x00 ∷ []) 17 2
+    ∷ refused (0x10 ∷ 0x02 ∷ 0x00 ∷ 0x00 ∷ []) 30 2
     ∷ []
 
 -- films of an independent drawer: two wires go down in one gap, two go up in one, and wires at level −2; in S1 and S3 no gap has two moves
@@ -168,7 +168,7 @@ table =
     ∷ lays 3 1 1 ∷ lays 3 2 2 ∷ lays 3 3 3 ∷ lays 3 4 3
     ∷ []
 
--- each cause of a refused sheet: 11, 12, 13, 15, 16, the three limits, 18, 19; then 14 and 21
+-- each cause of a refused sheet: 11, 12, 13, 15, 16, each of the three limits by itself, 18, 19; then 14 and 21
 causes : List Fact
 causes =
     refused [] 11 0
@@ -180,13 +180,22 @@ causes =
     ∷ refused (0x10 ∷ 0x02 ∷ 0x82 ∷ 0x00 ∷ []) 16 1
     ∷ refused (0x00 ∷ 0x02 ∷ 0x04 ∷ 0x00 ∷ []) 16 1
     ∷ refused (0x08 ∷ 0x04 ∷ 0x00 ∷ 0x18 ∷ 0x20 ∷ []) 17 2
-    ∷ refused (0x3c ∷ 0x08 ∷ 0x00 ∷ 0x00 ∷ 0x00 ∷ 0x00 ∷ 0x00 ∷ 0x20 ∷ []) 17 5
-    ∷ refused (0x14 ∷ 0x04 ∷ 0x00 ∷ 0x00 ∷ 0x60 ∷ []) 17 3
+    ∷ refused (0x3c ∷ 0x08 ∷ 0x00 ∷ 0x00 ∷ 0x00 ∷ 0x00 ∷ 0x00 ∷ 0x20 ∷ []) 30 5
+    ∷ refused (0x14 ∷ 0x04 ∷ 0x00 ∷ 0x00 ∷ 0x60 ∷ []) 31 3
     ∷ refused (0x10 ∷ 0x02 ∷ 0x01 ∷ 0x00 ∷ []) 18 2
     ∷ refused (0x10 ∷ 0x02 ∷ 0x02 ∷ 0x08 ∷ []) 19 0
     ∷ tight (0x14 ∷ 0x04 ∷ 0x00 ∷ 0x08 ∷ 0x60 ∷ [])
     ∷ []
 
-specimens-hold : T (all (specimens ++ (films ++ (table ++ causes))))
-unfolding pick tabulate every least put cut keep andThen orElse isNone settle before has joined home later kindOf nodeAt nodes lone limits met fits counted stands next kind step run positions choices firstFrom also way empty first failing digits val pack unpack takes code kindIn entries entryBits size padding sheetBits sheet upperOf lowerOf countOf entryAt entriesOf paddingOf begun labelled labels rowOf upper heightAt target ran wall bent drawn climb sink gap opened closed ending draw records recBits filmBytes wrongCount head room broken faultAt left scan leftOpen tail middle judge limitNumber faultSaid routeSaid readSaid drawSaid written firstLone refusal outcome routing firstSheet cleared workAfter sheetAfter reading rowAfter samePins agrees drawing sameSaid same fields copies once buffer holds all specimens films table causes
+-- causes at one node: of three Bs under 1/1 the third breaks the sum; at p = 4 16 and the upper limit hold too, at 3 the upper limit, at 1 the lower, at 2 no other
+inTurn : List Fact
+inTurn =
+    refused (0x14 ∷ 0x03 ∷ 0x00 ∷ 0x00 ∷ 0xc0 ∷ []) 16 3
+    ∷ refused (0x14 ∷ 0x03 ∷ 0x00 ∷ 0x00 ∷ 0x80 ∷ []) 17 3
+    ∷ refused (0x14 ∷ 0x03 ∷ 0x00 ∷ 0x00 ∷ 0x00 ∷ []) 30 3
+    ∷ refused (0x14 ∷ 0x03 ∷ 0x00 ∷ 0x00 ∷ 0x40 ∷ []) 31 3
+    ∷ []
+
+specimens-hold : T (all (specimens ++ (films ++ (table ++ (causes ++ inTurn)))))
+unfolding pick tabulate every least put cut keep andThen orElse isNone settle before has joined home later kindOf nodeAt nodes lone limits met fits counted stands next kind step run positions choices firstFrom also way empty first failing digits val pack unpack takes code kindIn entries entryBits size padding sheetBits sheet upperOf lowerOf countOf entryAt entriesOf paddingOf begun labelled labels rowOf upper heightAt target ran wall bent drawn climb sink gap opened closed ending draw records recBits filmBytes wrongCount head room broken faultAt left scan leftOpen tail middle judge limitNumber faultSaid routeSaid readSaid drawSaid written firstLone refusal outcome routing firstSheet cleared workAfter sheetAfter reading rowAfter samePins agrees drawing sameSaid same fields copies once buffer holds all specimens films table causes inTurn
 specimens-hold = tt

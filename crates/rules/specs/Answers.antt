@@ -1,4 +1,4 @@
--- Document 01, 'When the software says no': what router, reader, agreement test and drawer say, and every byte of the buffers after the call.
+-- Document 01, 'When the software says no', with request 6's numbers of the limits: what router, reader, agreement test and drawer say, and every byte of the buffers after the call.
 use mathlib.Core.Path.{_≡_}
 use mathlib.Core.Bool.{Bool, true, false, not, _&&_, _||_}
 use mathlib.Core.List.{List, [], _∷_, _++_}
@@ -27,12 +27,12 @@ pub record Said : Type 0 where
 abbrev pub says : ℕ → ℕ → Said
 says number place = record { number = number; place = place }
 
--- each of the three limits is 17; Met is no fault and is never given as one
+-- the three limits: 17 the upper, 30 the lower, 31 the sum of both streets; Met is no fault and is never given as one
 unfoldable pub limitNumber : Limits → ℕ
 limitNumber Limits.Met = 0
 limitNumber Limits.Upper = 17
-limitNumber Limits.Lower = 17
-limitNumber Limits.Sum = 17
+limitNumber Limits.Lower = 30
+limitNumber Limits.Sum = 31
 
 unfoldable pub faultSaid : Fault → Said
 faultSaid Fault.Head = says 11 0

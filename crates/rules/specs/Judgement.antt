@@ -1,4 +1,4 @@
--- Document 01, 'When the software says no', 11 to 19: the judgement of a sheet, in four parts that stand in order.
+-- Document 01, 'When the software says no', 11 to 19, with request 6's 30 and 31: the judgement of a sheet, in four parts that stand in order.
 use mathlib.Core.Bool.{Bool, not, _||_}
 use mathlib.Core.List.{List, [], _∷_}
 use mathlib.Core.Option.{Option, none, some}
@@ -28,14 +28,14 @@ head s =
 unfoldable pub room : List ℕ → List ℕ → Bool
 room s row = ltb (length row) (countOf s)
 
--- 17 at node i, from 1: the limit that is broken there
+-- 17, 30, 31 at node i, from 1: the limit that is broken there
 unfoldable pub broken : Limits → ℕ → Option Fault
 broken Met i = none
 broken Upper i = some (Street Upper i)
 broken Lower i = some (Street Lower i)
 broken Sum i = some (Street Sum i)
 
--- 15, 16, 17 at node i, from 1, with b nets open before it
+-- 15, 16, 17, 30, 31 at node i, from 1, with b nets open before it
 unfoldable pub faultAt : (ku kl i b : ℕ) → Entry → Option Fault
 faultAt ku kl i b (entry f a) =
     orElse (keep (eqb f 3) (NoKind i))
@@ -47,7 +47,7 @@ left B b = suc b
 left M b = b
 left E b = b - 1
 
--- 15, 16, 17 from node i on, leftmost first
+-- 15, 16, 17, 30, 31 from node i on, leftmost first
 unfoldable pub scan : (ku kl i b : ℕ) → List Entry → Option Fault
 scan ku kl i b [] = none
 scan ku kl i b (entry f a ∷ es) = orElse (faultAt ku kl i b (entry f a)) (scan ku kl (suc i) (left (kindIn f) b) es)
@@ -62,7 +62,7 @@ unfoldable pub tail : List ℕ → Option Fault
 tail s =
     orElse (keep (not (eqb (leftOpen 0 (entriesOf s)) 0)) (Open (countOf s))) (keep (not (eqb (paddingOf s) 0)) Padding)
 
--- 15 to 17 of a sheet
+-- 15, 16, 17, 30, 31 of a sheet
 unfoldable pub middle : List ℕ → Option Fault
 middle s = scan (upperOf s) (lowerOf s) 1 0 (entriesOf s)
 

@@ -1,4 +1,4 @@
--- The tests at one node: 15 by its kind field, then 16 and 17 of its wire.
+-- The tests at one node: 15 by its kind field, then 16, 17, 30, 31 of its wire.
 use mathlib.Core.Path.{_≡_, sym, ap, ap₂, _∙_}
 use mathlib.Core.List.{List}
 use mathlib.Core.Option.{some}

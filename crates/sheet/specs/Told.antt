@@ -1,4 +1,4 @@
--- What the judging functions say, by what the judgement of document 01 finds.
+-- What the judging functions say, by what the judgement of a sheet finds.
 use mathlib.Core.Option.{Option, none, some}
 use mathlib.Core.List.{List}
 use Prim.Native.Nat.{ℕ, suc, _+_, _*_, _≤_, _<_}
@@ -23,7 +23,7 @@ unfoldable pub passed : Option Fault → ℕ → Passed
 passed none b = Passed.Open b
 passed (some e) b = Passed.Unfit e
 
--- 16 and 17 at node i, from 1, with a nets above its own, of b
+-- 16, 17, 30, 31 at node i, from 1, with a nets above its own, of b
 unfoldable pub wireFault : (ku kl i a b : ℕ) → Option Fault
 wireFault ku kl i a b = orElse (keep (leb b a) (Fault.Position i)) (broken (limits ku kl (suc a) b) i)
 

@@ -1,4 +1,4 @@
-// The judgement of a sheet, 11 to 19 without 14: what every reader of sheets asks first.
+// The judgement of a sheet, all numbers of the reader but 14: what every reader of sheets asks first.
 use bits::get_bits;
 use rules::Fault;
 use rules::Limits;
@@ -62,7 +62,7 @@ pub fn inspect_head(s: &[u8]) -> Inspected
     Inspected::Legal
 }
 
-// 15 to 17 node by node, then 18 and 19, of a sheet whose head has no fault.
+// 15, 16, 17, 30, 31 node by node, then 18 and 19, of a sheet whose head has no fault.
 pub fn inspect_body(s: &[u8]) -> Inspected
     requires { ⌜ head (now s) ≡ none ⌝ }
     ensures { λ r. ⌜ r ≡ told (orElse (middle (now (s .entry))) (tail (now (s .entry)))) ⌝ }
@@ -74,7 +74,7 @@ pub fn inspect_body(s: &[u8]) -> Inspected
     }
 }
 
-// 15 to 17 at all nodes, leftmost first.
+// 15, 16, 17, 30, 31 at all nodes, leftmost first.
 fn judge_nodes(s: &[u8]) -> Passed
     requires { ⌜ head (now s) ≡ none ⌝ }
     ensures { λ r. ⌜ r ≡ passed (middle (now (s .entry))) (leftOpen 0 (entriesOf (now (s .entry)))) ⌝ }
@@ -95,7 +95,7 @@ fn judge_nodes(s: &[u8]) -> Passed
     Passed::Open(b)
 }
 
-// 15, 16, 17 at node i, from 0, before which b nets are open.
+// 15, 16, 17, 30, 31 at node i, from 0, before which b nets are open.
 fn judge_node(s: &[u8], ku: u8, kl: u8, i: usize, b: usize) -> Passed
     requires { ⌜ InSheet (now s) i × (b ≤ i) ⌝ }
     ensures { λ r. ⌜ r ≡ passed (faultAt ku kl (i + 1) b (entryAt (now (s .entry)) i)) (left (kindAt (entryAt (now (s .entry)) i)) b) ⌝ }
@@ -112,7 +112,7 @@ fn judge_node(s: &[u8], ku: u8, kl: u8, i: usize, b: usize) -> Passed
     }
 }
 
-// 16 and 17 at a node with b open nets, its own among them, of which so many are closed there.
+// 16, 17, 30, 31 at a node with b open nets, its own among them, of which so many are closed there.
 fn judge_wire(ku: u8, kl: u8, node: usize, above: usize, b: usize, closed: usize) -> Passed
     requires { ⌜ closed ≤ 1 ⌝ }
     ensures { λ r. ⌜ r ≡ passed (wireFault ku kl node above b) (b - closed) ⌝ }

@@ -53,15 +53,15 @@ p-over-b 14020600 0 16 1 -
 M-on-no-net 10024200 0 16 1 -
 E-on-no-net 1003020800 0 16 3 -
 upper-limit 0804001820 0 17 2 -
-lower-limit 2004000820 0 17 2 -
-sum-limit 1404000060 0 17 3 -
+lower-limit 2004000820 0 30 2 -
+sum-limit 1404000060 0 31 3 -
 left-open 14020000 0 18 2 -
 padding 10020208 0 19 0 -
 ",
     )
 }
 
-// Two causes at once, with no film lent.
+// Several causes at once, with no film lent.
 pub fn causes_in_turn(tally: Tally) -> Tally {
     ask(
         tally,
@@ -71,12 +71,17 @@ pub fn causes_in_turn(tally: Tally) -> Tally {
 12-before-13 4002020000 0 12 0 -
 15-before-16 1002fe00 0 15 1 -
 16-before-17 00020600 0 16 1 -
-17-at-1-before-15-at-2 00020300 0 17 1 -
+16-before-31 14030000c0 0 16 3 -
+17-before-31 1403000080 0 17 3 -
+30-before-31 1403000000 0 30 3 -
+31-at-1-before-15-at-2 00020300 0 31 1 -
+31-at-1-before-30-at-2 00020000 0 31 1 -
+30-at-2-before-17-at-3 1003000080 0 30 2 -
 16-at-2-before-15-at-3 1003021c00 0 16 2 -
 15-before-18 14020300 0 15 2 -
-17-before-18 10020000 0 17 2 -
+30-before-18 10020000 0 30 2 -
 18-before-19 14020001 0 18 2 -
-17-before-19 10020001 0 17 2 -
+30-before-19 10020001 0 30 2 -
 13-before-21 100202 0 13 0 -
 ",
     )

@@ -1,4 +1,4 @@
-// Asks the library the edges and specimens of document 01 and the worked net lists of the source documents, and prints each answer with what was tested.
+// Asks the library the edges and specimens of documents 01 and 02 and the worked net lists of the source documents, and prints each answer with what was tested.
 mod agreement_edges;
 mod drawer_edges;
 mod listings;
@@ -16,7 +16,7 @@ use libc::STDOUT_FILENO;
 fn main() {
     io::write_all(
         STDOUT_FILENO,
-        b"whom, case: number at place, bytes written; then whether answer and every byte lent are what document 01 says\n",
+        b"whom, case: number at place, bytes written; then whether answer and every byte lent are what documents 01 and 02 say\n",
     );
     let tally = named(start());
     let tally = router_and_reader(tally);

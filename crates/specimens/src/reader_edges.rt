@@ -54,15 +54,15 @@ p-over-b 14020600 100 16 1 -
 M-on-no-net 10024200 100 16 1 -
 E-on-no-net 1003020800 100 16 3 -
 upper-limit 0804001820 100 17 2 -
-lower-limit 2004000820 100 17 2 -
-sum-limit 1404000060 100 17 3 -
+lower-limit 2004000820 100 30 2 -
+sum-limit 1404000060 100 31 3 -
 left-open 14020000 100 18 2 -
 padding 10020208 100 19 0 -
 ",
     )
 }
 
-// Two causes at once: the earlier test decides, and of two nodes the left one.
+// Several causes at once: the earliest test decides, and of two nodes the left one.
 pub fn causes_in_turn(tally: Tally) -> Tally {
     ask(
         tally,
@@ -74,12 +74,17 @@ pub fn causes_in_turn(tally: Tally) -> Tally {
 14-before-15 1002c200 1 14 0 -
 15-before-16 1002fe00 100 15 1 -
 16-before-17 00020600 100 16 1 -
-17-at-1-before-15-at-2 00020300 100 17 1 -
+16-before-31 14030000c0 100 16 3 -
+17-before-31 1403000080 100 17 3 -
+30-before-31 1403000000 100 30 3 -
+31-at-1-before-15-at-2 00020300 100 31 1 -
+31-at-1-before-30-at-2 00020000 100 31 1 -
+30-at-2-before-17-at-3 1003000080 100 30 2 -
 16-at-2-before-15-at-3 1003021c00 100 16 2 -
 15-before-18 14020300 100 15 2 -
-17-before-18 10020000 100 17 2 -
+30-before-18 10020000 100 30 2 -
 18-before-19 14020001 100 18 2 -
-17-before-19 10020001 100 17 2 -
+30-before-19 10020001 100 30 2 -
 ",
     )
 }

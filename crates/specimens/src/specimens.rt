@@ -1,4 +1,4 @@
-// S1 to S12 of document 01, with more bytes lent than are needed. A line says what is asked, the bytes that are lent, and what is wanted (casebook).
+// S1 to S12 of document 01, S12 with request 6's number, with more bytes lent than are needed. A line says what is asked, the bytes that are lent, and what is wanted (casebook).
 use casebook::Asked;
 use casebook::Tally;
 use casebook::ask;
@@ -38,7 +38,7 @@ pub fn refused_sheets(tally: Tally) -> Tally {
         Asked::Reader,
         b"
 S11 10020201 100 19 0 -
-S12 10020000 100 17 2 -
+S12 10020000 100 30 2 -
 ",
     );
     let tally = ask(
@@ -46,7 +46,7 @@ S12 10020000 100 17 2 -
         Asked::Drawer,
         b"
 S11 10020201 1000 19 0 -
-S12 10020000 1000 17 2 -
+S12 10020000 1000 30 2 -
 ",
     );
     ask(

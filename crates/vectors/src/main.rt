@@ -18,7 +18,7 @@ enum Asked {
     Drawer,
 }
 
-const TEXT: usize = 524288;
+const TEXT: usize = 1048576;
 
 fn main() {
     ask(Asked::Router, b"specimens.txt");
@@ -32,7 +32,7 @@ fn main() {
     ask(Asked::Drawer, b"wrong-films.txt");
 }
 
-// Reads a file of under 524,288 bytes, and answers it.
+// Reads a file of under 1,048,576 bytes, and answers it.
 fn ask(asked: Asked, path: &[u8]) {
     let fd = os::open_read(path);
     if fd < 0 {

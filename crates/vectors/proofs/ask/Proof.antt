@@ -16,7 +16,7 @@ returns : tie.Need-returns
 returns c = search needs
 
 slice-aggregate-read-full : tie.Need-slice-aggregate-read-full
-slice-aggregate-read-full c = sym (length-replicate {A = ℕ} 524288 0)
+slice-aggregate-read-full c = sym (length-replicate {A = ℕ} 1048576 0)
 
 read-full-requires : tie.Need-read-full-requires
 read-full-requires c κs = tt
