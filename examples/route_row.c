@@ -1,4 +1,4 @@
-/* Routes a row, reads its sheet back and draws its wires.
+/* Routes a row, reads its sheet back and draws its wires. Each character of the row is a label, and an underscore is a blank.
  *
  *     rt staticlib capi && cc -std=c11 -Iinclude -o target/route_row examples/route_row.c target/staticlib/libcapi.a && target/route_row 2 1 abcbac
  */
@@ -68,6 +68,10 @@ static int read_back(const uint8_t *sheet, size_t size, size_t n) {
     return niraflue_number(answer) != 0;
 }
 
+static void fill_row(uint8_t *row, const char *labels, size_t n) {
+    for (size_t i = 0; i < n; i++) row[i] = labels[i] == '_' ? NIRAFLUE_BLANK : (uint8_t)labels[i];
+}
+
 int main(int argc, char **argv) {
     if (argc != 4) {
         fprintf(stderr, "usage: %s KU KL LABELS\n", argv[0]);
@@ -76,7 +80,7 @@ int main(int argc, char **argv) {
     size_t n = strlen(argv[3]);
     size_t size = NIRAFLUE_SHEET_SIZE(n);
     uint8_t *row = buffer(n), *work = buffer(NIRAFLUE_WORK_SIZE(n)), *sheet = buffer(size);
-    memcpy(row, argv[3], n);
+    fill_row(row, argv[3], n);
     uint64_t answer = niraflue_route(row, n, (uint8_t)atoi(argv[1]), (uint8_t)atoi(argv[2]), work, NIRAFLUE_WORK_SIZE(n), sheet, size);
     int failed = 0;
     if (niraflue_number(answer) != 0) {

@@ -1,4 +1,4 @@
-//! The proved router, reader, agreement test and drawer of document 01, for callers in Rust.
+//! The proved router, reader, agreement test and drawer of documents 01 and 02, for callers in Rust.
 //!
 //! [`routed`], [`row_of`] and [`film_of`] allocate what they need. [`route`], [`read`] and
 //! [`draw`] work in buffers that the caller lends and say in full what is in them afterwards.
@@ -11,6 +11,10 @@
 //!
 //! let refusal = niraflue::routed(b"abcabcabc", 2, 1).unwrap_err();
 //! assert_eq!((refusal.number, refusal.place), (6, 5));
+//!
+//! // The wire passes below the blank between its two pins.
+//! let row = [b'a', niraflue::BLANK, b'a'];
+//! assert_eq!(niraflue::routed(&row, 1, 1)?, [0x14, 0x03, 0x03, 0x08, 0x00]);
 //! # Ok::<(), niraflue::Said>(())
 //! ```
 
@@ -26,6 +30,9 @@ struct Readme;
 
 /// The most nodes of a row that the router takes.
 pub const MAX_NODES: usize = 512;
+
+/// The label of a blank: a pin that is joined to nothing, not even to another blank.
+pub const BLANK: u8 = 255;
 
 /// The bytes of one film record.
 pub const RECORD_SIZE: usize = 5;
@@ -46,28 +53,28 @@ pub const fn film_bound(n: usize) -> usize {
 }
 
 /// An answer of the library: a number, 0 for accepted, and a place, whose meaning goes by the
-/// number.
+/// number. Causes are tested in the table's order, 16, 17, 30 and 31 node by node.
 ///
 /// | Number | Cause | Place |
 /// |---|---|---|
 /// | 0 | accepted | nodes ([`route`], [`read`]) or records ([`draw`]) |
 /// | 1 | row under 2 or over 512 nodes | 0 |
 /// | 2 | a street of more than 3 tracks | 0 |
-/// | 3 | a label stands at one node only | the first such node |
+/// | 3 | a label other than [`BLANK`] stands at one node only | the first such node |
 /// | 4 | work under [`work_size`] | 0 |
 /// | 5 | sheet buffer under [`sheet_size`] | 0 |
-/// | 6 | no placing | the first node whose row up to there has none |
+/// | 6 | no placing | the first node whose row up to there has none; never a blank |
 /// | 11 | sheet under 2 bytes, or its node count not 2 to 512 | 0 |
 /// | 12 | upper street of more than 3 tracks | 0 |
 /// | 13 | length not that of the node count | 0 |
 /// | 14 | row buffer under the node count | 0 |
-/// | 15 | kind field 3 | node |
-/// | 16 | position beyond the order | node |
-/// | 17 | more nets above than upper tracks | node |
-/// | 30 | more nets below than lower tracks | node |
-/// | 31 | more nets than tracks in both streets | node |
+/// | 16 | position beyond the order; at a blank more wires above it than are open | node |
+/// | 17 | more nets above than upper tracks, at a blank too | node |
+/// | 30 | more nets below than lower tracks, at a blank too | node |
+/// | 31 | more nets than tracks in both streets; never at a blank | node |
 /// | 18 | a net without an end | node count |
 /// | 19 | padding not zero | 0 |
+/// | 23 | more than 255 nets; not from [`draw`] | 0 |
 /// | 21 | film under [`RECORD_SIZE`] bytes a record | 0 |
 #[derive(Clone, Copy, Debug, PartialEq, Eq, Hash)]
 pub struct Said {
@@ -110,13 +117,13 @@ impl Said {
             12 => "the upper street has more than 3 tracks",
             13 => "the sheet's length does not fit its node count",
             14 => "the row buffer is too short",
-            15 => "a kind field is 3",
             16 => "a position is beyond the order",
             17 => "the upper street has too few tracks",
             30 => "the lower street has too few tracks",
             31 => "both streets together have too few tracks",
             18 => "a net has no end",
             19 => "the padding is not zero",
+            23 => "the sheet has more than 255 nets",
             21 => "the film buffer is too short",
             _ => "unknown number",
         }
@@ -131,12 +138,13 @@ impl fmt::Display for Said {
 
 impl Error for Said {}
 
-/// Routes `row` with `ku` upper and `kl` lower tracks into `sheet`.
+/// Routes `row` with `ku` upper and `kl` lower tracks into `sheet`. Nodes with one label form a net,
+/// but for [`BLANK`].
 ///
-/// Accepted: the sheet of the row's first placing fills the start of `sheet`, the rest of it is as
-/// it was, and the place is the node count. Refused by 1 to 6, tested in that order: `sheet` is as
-/// it was. Accepted or 6: the first [`work_size`] bytes of `work` are zero; every other byte of it
-/// is as it was, after every call.
+/// Accepted: the sheet of the row's first placing, with as few wires above each blank as the streets
+/// allow, fills the start of `sheet`, the rest of it is as it was, and the place is the node count.
+/// Refused by 1 to 6, tested in that order: `sheet` is as it was. Accepted or 6: the first
+/// [`work_size`] bytes of `work` are zero; every other byte of it is as it was, after every call.
 pub fn route(row: &[u8], ku: u8, kl: u8, work: &mut [u8], sheet: &mut [u8]) -> Said {
     // SAFETY: each pointer and length is those of one live slice; the two mutable slices overlap
     // nothing, by their borrows; the call keeps no pointer.
@@ -155,10 +163,11 @@ pub fn route(row: &[u8], ku: u8, kl: u8, work: &mut [u8], sheet: &mut [u8]) -> S
     Said::from_joined(joined)
 }
 
-/// Reads the row of `sheet` into `row`, its nets labelled 0, 1, 2 in the order of their first nodes.
+/// Reads the row of `sheet` into `row`, its nets labelled 0, 1, 2 in the order of their first nodes,
+/// its blanks [`BLANK`].
 ///
 /// Accepted: the labels fill the start of `row`, the rest of it is as it was, and the place is the
-/// node count. Refused by 11 to 19, 30 or 31: `row` is as it was.
+/// node count. Refused by 11 to 14, 16 to 19, 23, 30 or 31: `row` is as it was.
 pub fn read(sheet: &[u8], row: &mut [u8]) -> Said {
     // SAFETY: each pointer and length is those of one live slice; the mutable slice overlaps
     // nothing, by its borrow; the call keeps no pointer.
@@ -167,7 +176,8 @@ pub fn read(sheet: &[u8], row: &mut [u8]) -> Said {
     Said::from_joined(joined)
 }
 
-/// Whether `sheet` passes the reader's rules and joins the same nodes as `row`.
+/// Whether `sheet` passes the reader's tests but 14, has as many nodes as `row`, joins the same ones
+/// and has the same blanks.
 pub fn agrees(row: &[u8], sheet: &[u8]) -> bool {
     // SAFETY: each pointer and length is those of one live slice; the call only reads them and
     // keeps no pointer.
@@ -177,8 +187,8 @@ pub fn agrees(row: &[u8], sheet: &[u8]) -> bool {
 /// Draws the wires of `sheet` into `film`, [`RECORD_SIZE`] bytes a record.
 ///
 /// Accepted: the records, each once and in no stated order, fill the start of `film`, the rest of
-/// it is as it was, and the place is their number. Refused by 11 to 13, 15 to 19, 21, 30 or 31:
-/// `film` is as it was.
+/// it is as it was, and the place is their number, 0 for blanks alone. Refused by 11 to 13, 16 to
+/// 19, 21, 30 or 31: `film` is as it was.
 pub fn draw(sheet: &[u8], film: &mut [u8]) -> Said {
     // SAFETY: each pointer and length is those of one live slice; the mutable slice overlaps
     // nothing, by its borrow; the call keeps no pointer.
@@ -205,7 +215,7 @@ pub fn row_of(sheet: &[u8]) -> Result<Vec<u8>, Said> {
     Ok(row)
 }
 
-/// The film of `sheet`, or the refusal, which is never 14 or 21.
+/// The film of `sheet`, or the refusal, which is never 14, 21 or 23.
 pub fn film_of(sheet: &[u8]) -> Result<Vec<u8>, Said> {
     let mut film = vec![0; film_bound(MAX_NODES)];
     let records = draw(sheet, &mut film).or_refusal()?;

@@ -1,24 +1,18 @@
-//! Document 01's specimens S1 to S12, S12 with request 6's number, and the edges, answered by the
-//! library and by the reference.
+//! Document 01's specimens S1 to S12, S12 with request 6's number, rows and sheets with request 1's
+//! blanks, and the edges, answered by the library and by the reference.
 
 mod common;
+mod entries;
 
 use common::{agrees, draw, draw_at_all_lengths, hex, read, records, route, said, Random};
-use niraflue::{film_of, routed, row_of, sheet_size, work_size, Said};
+use entries::entries;
+use niraflue::{film_of, routed, row_of, sheet_size, work_size, Said, BLANK};
 
 /// Routes with buffers of the exact lengths; on failure the row and the streets are printed.
 fn routed_by_both(row: &[u8], streets: (u8, u8)) -> (Said, Vec<u8>) {
     let n = row.len();
     let mut random = Random::new(1 + n as u64);
     route(&mut random, row, streets, work_size(n), sheet_size(n))
-}
-
-/// The positions that a sheet states, from 1.
-fn positions(sheet: &[u8]) -> Vec<u8> {
-    let n = usize::from(sheet[0] & 3) << 8 | usize::from(sheet[1]);
-    let bit = |at: usize| sheet[at / 8] >> (7 - at % 8) & 1;
-    let field = |start: usize| (start..start + 4).fold(0, |value, at| 2 * value + bit(at));
-    (0..n).map(|at| 1 + field(16 + 6 * at + 2)).collect()
 }
 
 fn assert_sheet(row: &[u8], (ku, kl): (u8, u8), sheet: &str) {
@@ -38,7 +32,8 @@ fn s1_s3_and_s6_get_their_sheets() {
 fn assert_positions(row: &[u8], (ku, kl): (u8, u8), expected: &[u8]) {
     let (answer, sheet) = routed_by_both(row, (ku, kl));
     assert_eq!(answer, said(0, row.len()), "{} {ku}/{kl}", hex(row));
-    assert_eq!(positions(&sheet), expected, "{} {ku}/{kl}", hex(row));
+    let positions: Vec<u8> = entries(&sheet).iter().map(|(_, field)| field + 1).collect();
+    assert_eq!(positions, expected, "{} {ku}/{kl}", hex(row));
 }
 
 #[test]
@@ -123,9 +118,142 @@ fn in_s3_a_goes_from_1_to_minus_1_at_column_1() {
     assert!(film.contains(&[0x80, 0x18, 0x00, 0x54, 0x00]), "{film:x?}");
 }
 
-/// Nets of two neighbours each; an odd row's last net has three nodes.
+/// The row of a text with an underscore for each blank.
+fn with_blanks(text: &str) -> Vec<u8> {
+    let label = |byte: u8| if byte == b'_' { BLANK } else { byte };
+    text.bytes().map(label).collect()
+}
+
+#[test]
+fn rows_with_blanks_get_their_sheets() {
+    assert_sheet(&with_blanks("__"), (0, 0), "0002c300");
+    assert_sheet(&with_blanks("a_a"), (1, 1), "1403030800");
+    assert_sheet(&with_blanks("_a_a_"), (1, 1), "1405c00c20c0");
+    assert_sheet(&with_blanks("ab_ab_"), (1, 1), "1406000c618300");
+}
+
+#[test]
+fn rows_with_blanks_are_refused_for_their_nets() {
+    for (text, streets, refusal) in [
+        ("ab_ab", (2, 0), said(6, 4)),
+        ("__aa", (0, 0), said(6, 3)),
+        ("_a", (1, 1), said(3, 2)),
+        ("_a__", (0, 0), said(3, 2)),
+        ("_", (1, 1), said(1, 0)),
+        ("__", (4, 0), said(2, 0)),
+    ] {
+        let (answer, _) = routed_by_both(&with_blanks(text), streets);
+        assert_eq!(answer, refusal, "{text} {streets:?}");
+    }
+}
+
+#[test]
+fn three_of_six_wires_pass_above_a_blank() {
+    let (answer, sheet) = routed_by_both(&with_blanks("abcdef_fedcba"), (3, 3));
+    assert_eq!(answer, said(0, 13));
+    assert_eq!(entries(&sheet)[6], (3, 3));
+}
+
+#[test]
+fn each_limit_at_a_blank_has_its_number() {
+    let mut random = Random::new(20);
+    let row = with_blanks("a_a");
+    for (sheet, refusal) in [
+        ([0x10, 0x03, 0x03, 0x08, 0x00], said(30, 2)),
+        ([0x04, 0x03, 0x03, 0x18, 0x00], said(17, 2)),
+        ([0x04, 0x03, 0x03, 0x28, 0x00], said(16, 2)),
+    ] {
+        assert_eq!(read(&mut random, &sheet, 3).0, refusal, "{}", hex(&sheet));
+        assert_eq!(draw(&mut random, &sheet, 99).0, refusal, "{}", hex(&sheet));
+        assert!(!agrees(&mut random, &row, &sheet), "{}", hex(&sheet));
+    }
+}
+
+/// Whichever side of the blank the wire takes, the sheet is legal; the router's has it below.
+#[test]
+fn wires_pass_a_blank_on_either_side() {
+    let mut random = Random::new(21);
+    for (sheet, count) in [
+        ([0x14, 0x03, 0x03, 0x08, 0x00], 7),
+        ([0x14, 0x03, 0x03, 0x18, 0x00], 3),
+    ] {
+        let row = read(&mut random, &sheet, 3);
+        assert_eq!(row, (said(0, 3), vec![0, BLANK, 0]));
+        assert!(agrees(&mut random, &with_blanks("a_a"), &sheet));
+        for other in ["aaa", "aba", "a_b", "___", "aa_", "a__a", "a_"] {
+            assert!(!agrees(&mut random, &with_blanks(other), &sheet), "{other}");
+        }
+        let (answer, _) = draw_at_all_lengths(&mut random, &sheet);
+        assert_eq!(answer, said(0, count));
+    }
+}
+
+#[test]
+fn in_the_film_of_a_blank_the_wire_goes_down_and_up_again() {
+    let mut random = Random::new(25);
+    let (_, film) = draw_at_all_lengths(&mut random, &[0x14, 0x03, 0x03, 0x08, 0x00]);
+    for column in [1, 17] {
+        let between_1_and_minus_1 = [0x80, 0x18, column >> 2, (column << 6) | 0x14, 0x00];
+        assert!(film.contains(&between_1_and_minus_1), "{film:x?}");
+    }
+}
+
+#[test]
+fn rows_of_blanks_alone_have_no_film() {
+    let mut random = Random::new(22);
+    for n in [2, 3, 511, 512] {
+        let row = vec![BLANK; n];
+        let (answer, sheet) = routed_by_both(&row, (0, 0));
+        assert_eq!(answer, said(0, n));
+        assert!(entries(&sheet).iter().all(|&entry| entry == (3, 0)));
+        assert_eq!(read(&mut random, &sheet, n), (said(0, n), row.clone()));
+        assert!(agrees(&mut random, &row, &sheet));
+        assert!(!agrees(&mut random, &vec![0; n], &sheet));
+        let none = draw_at_all_lengths(&mut random, &sheet);
+        assert_eq!(none, (said(0, 0), vec![]));
+        assert_eq!(film_of(&sheet), Ok(vec![]));
+    }
+}
+
+#[test]
+fn rows_have_up_to_255_nets() {
+    let mut random = Random::new(23);
+    let pairs = (0..510).map(|at| (at / 2) as u8);
+    let row: Vec<u8> = pairs.chain([BLANK, BLANK]).collect();
+    let (answer, sheet) = routed_by_both(&row, (1, 0));
+    assert_eq!(answer, said(0, 512));
+    assert_eq!(read(&mut random, &sheet, 512), (said(0, 512), row.clone()));
+    assert!(agrees(&mut random, &row, &sheet));
+    for last in [[254, 254], [254, BLANK], [BLANK, 0]] {
+        let other = [&row[..510], &last].concat();
+        assert!(!agrees(&mut random, &other, &sheet), "{last:?}");
+    }
+    assert_eq!(draw_at_all_lengths(&mut random, &sheet).0, said(0, 765));
+}
+
+#[test]
+fn a_sheet_of_256_nets_is_drawn_and_not_read() {
+    let mut random = Random::new(24);
+    // Under 1/0: pairs of neighbours, two to three bytes.
+    let pairs = [0x02, 0x00, 0x20].repeat(128);
+    let sheet = [&[0x12, 0x00][..], &pairs].concat();
+    assert_eq!(read(&mut random, &sheet, 512).0, said(23, 0));
+    assert_eq!(read(&mut random, &sheet, 511).0, said(14, 0));
+    assert_eq!(row_of(&sheet), Err(said(23, 0)));
+    let labels: Vec<u8> = (0..512).map(|at| (at / 2) as u8).collect();
+    for last in [BLANK, 254, 0] {
+        let row = [&labels[..510], &[last; 2]].concat();
+        assert!(!agrees(&mut random, &row, &sheet), "{last}");
+    }
+    let (answer, film) = draw_at_all_lengths(&mut random, &sheet);
+    assert_eq!(answer, said(0, 768));
+    let net = |record: &[u8; 5]| record[0] << 1 | record[1] >> 7;
+    assert_eq!(film.iter().filter(|record| net(record) == 255).count(), 3);
+}
+
+/// Nets of two neighbours each, at most 255; the last net has the nodes that are left.
 fn neighbours(n: usize) -> Vec<u8> {
-    let nets = (n / 2).max(1);
+    let nets = (n / 2).clamp(1, 255);
     (0..n).map(|at| (at / 2).min(nets - 1) as u8).collect()
 }
 
@@ -258,6 +386,11 @@ fn a_row_of_any_length_is_refused_without_its_buffers() {
 fn refusals_speak() {
     let refusal = routed(b"abab", 2, 0).unwrap_err();
     assert_eq!(refusal.to_string(), "6 at 3: the row has no placing");
+    let refusal = said(23, 0);
+    assert_eq!(
+        refusal.to_string(),
+        "23 at 0: the sheet has more than 255 nets"
+    );
     for (third, words) in [
         (0x80, "17 at 3: the upper street has too few tracks"),
         (0x00, "30 at 3: the lower street has too few tracks"),

@@ -6,6 +6,7 @@ mod common;
 use common::{agrees, draw, draw_at_all_lengths, hex, read, records, route, said, Random, Record};
 use niraflue::{film_of, routed, row_of, sheet_size, work_size, Said};
 
+const AGREE: &str = include_str!("../../crates/vectors/data/agree.txt");
 const ROUTER: &str = include_str!("../../crates/vectors/data/router.txt");
 const ROWS: &str = include_str!("../rows.txt");
 const SHEETS: &str = include_str!("../../crates/vectors/data/sheets.txt");
@@ -63,7 +64,7 @@ fn rows_get_the_sheets_of_the_outside_vectors() {
             "{line}"
         );
     }
-    assert_eq!(ROUTER.lines().count(), 607);
+    assert_eq!(ROUTER.lines().count(), 600);
 }
 
 #[test]
@@ -83,7 +84,19 @@ fn sheets_get_the_rows_and_films_of_the_outside_vectors() {
         let drawn = film_of(&sheet).map(|film| records(&film));
         assert_eq!(drawn, given(to_film), "{line}");
     }
-    assert_eq!(SHEETS.lines().count(), 623);
+    assert_eq!(SHEETS.lines().count(), 673);
+}
+
+#[test]
+fn rows_and_sheets_agree_as_the_outside_vectors_say() {
+    let mut random = Random::new(5);
+    for line in AGREE.lines() {
+        let [row, sheet, answer] = fields(line);
+        let (row, sheet) = (from_hex(row), from_hex(sheet));
+        let yes = agrees(&mut random, &row, &sheet);
+        assert_eq!(u8::from(yes), number(answer), "{line}");
+    }
+    assert_eq!(AGREE.lines().count(), 300);
 }
 
 #[test]

@@ -55,7 +55,7 @@ impl Buffers {
 
 type Route = fn(&[u8], u8, u8, &mut [u8], &mut [u8]) -> Said;
 
-/// The routers that answer as document 01 says.
+/// The routers that answer as documents 01 and 02 say.
 const EXACT: [Route; 3] = [niraflue::route, count_words, count_depth_first];
 
 #[no_mangle]

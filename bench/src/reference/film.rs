@@ -23,7 +23,9 @@ pub fn records(placing: &Placing) -> Vec<Record> {
         .map(|touch| levels(placing.streets.upper, touch))
         .collect();
     for (at, touch) in touches.iter().enumerate() {
-        drawing.node(PITCH * at, touch, levels[at][touch.p - 1]);
+        if let Some(net) = touch.net() {
+            drawing.node(PITCH * at, touch.kind, net, levels[at][touch.field]);
+        }
         if at + 1 < touches.len() {
             let wires = kept(touch, &levels[at], &touches[at + 1], &levels[at + 1]);
             drawing.gap(PITCH * at, &wires);
@@ -34,7 +36,10 @@ pub fn records(placing: &Placing) -> Vec<Record> {
 
 /// The level of each wire at a node, from the top.
 fn levels(upper: usize, touch: &Touch) -> Vec<isize> {
-    let u = IN_UPPER[upper][touch.p - 1] as isize;
+    let u = match touch.kind {
+        Kind::Blank => touch.field,
+        _ => IN_UPPER[upper][touch.field],
+    } as isize;
     let positions = 1..=touch.order.len() as isize;
     positions
         .map(|q| if q <= u { u - q + 1 } else { -(q - u) })
@@ -72,15 +77,13 @@ struct Drawing {
 }
 
 impl Drawing {
-    fn node(&mut self, column: usize, touch: &Touch, level: isize) {
-        let net = touch.net();
+    /// The stub of a net's node, where its first run begins and its last one ends.
+    fn node(&mut self, column: usize, kind: Kind, net: usize, level: isize) {
         self.records.push(vertical(net, column, 0, level));
-        match touch.kind {
-            Kind::Begin => {
-                self.runs.insert(net, (column, level));
-            }
-            Kind::Middle => {}
-            Kind::End => self.end_run(net, column),
+        if kind == Kind::Begin {
+            self.runs.insert(net, (column, level));
+        } else if kind == Kind::End {
+            self.end_run(net, column);
         }
     }
 

@@ -8,7 +8,7 @@ mod film;
 mod router;
 mod sheet;
 
-use crate::Said;
+use crate::{Said, BLANK};
 
 /// The track counts of the two streets.
 #[derive(Clone, Copy, Debug)]
@@ -31,14 +31,26 @@ impl Streets {
             None
         }
     }
+
+    /// The same at a blank with `s` of the `b` open wires above it.
+    fn broken_at_blank(self, s: usize, b: usize) -> Option<u32> {
+        if s > self.upper {
+            Some(17)
+        } else if b - s > self.lower {
+            Some(30)
+        } else {
+            None
+        }
+    }
 }
 
-/// A node's part in its net.
+/// A node's part in its net, or that it is joined to nothing.
 #[derive(Clone, Copy, Debug, PartialEq, Eq)]
 enum Kind {
     Begin,
     Middle,
     End,
+    Blank,
 }
 
 fn accepted(place: usize) -> Said {
@@ -74,9 +86,8 @@ pub fn route(row: &[u8], ku: u8, kl: u8, work: &mut [u8], sheet: &mut [u8]) -> S
 
 /// As [`crate::read`].
 pub fn read(sheet: &[u8], row: &mut [u8]) -> Said {
-    match sheet::inspected(sheet, Some(row.len())) {
-        Ok(placing) => {
-            let labels = placing.labels();
+    match sheet::labels(sheet, Some(row.len())) {
+        Ok(labels) => {
             row[..labels.len()].copy_from_slice(&labels);
             accepted(labels.len())
         }
@@ -86,15 +97,19 @@ pub fn read(sheet: &[u8], row: &mut [u8]) -> Said {
 
 /// As [`crate::agrees`].
 pub fn agrees(row: &[u8], sheet: &[u8]) -> bool {
-    match sheet::inspected(sheet, None) {
-        Ok(placing) => join_the_same_pins(row, &placing.labels()),
+    match sheet::labels(sheet, None) {
+        Ok(labels) => have_the_same_pins(row, &labels),
         Err(_) => false,
     }
 }
 
-fn join_the_same_pins(a: &[u8], b: &[u8]) -> bool {
-    let n = a.len();
-    n == b.len() && (0..n).all(|i| (0..i).all(|j| (a[i] == a[j]) == (b[i] == b[j])))
+/// Whether two rows have equally many nodes, the same joined and the same blank.
+fn have_the_same_pins(a: &[u8], b: &[u8]) -> bool {
+    let blank = |row: &[u8], i: usize| row[i] == BLANK;
+    let joined = |row: &[u8], i: usize, j: usize| !blank(row, i) && row[i] == row[j];
+    let alike =
+        |i| blank(a, i) == blank(b, i) && (0..i).all(|j| joined(a, i, j) == joined(b, i, j));
+    a.len() == b.len() && (0..a.len()).all(alike)
 }
 
 /// As [`crate::draw`], with the records in an order of its own.

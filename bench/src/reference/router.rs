@@ -3,7 +3,7 @@
 
 use super::sheet::Node;
 use super::{refused, Kind, Streets};
-use crate::Said;
+use crate::{Said, BLANK};
 use std::collections::HashSet;
 
 pub fn work_needed(n: usize) -> usize {
@@ -29,7 +29,8 @@ pub fn refusal(row: &[u8], ku: u8, kl: u8, work_len: usize, sheet_len: usize) ->
 }
 
 fn is_lone(row: &[u8], node: usize) -> bool {
-    row.iter().filter(|&&label| label == row[node - 1]).count() == 1
+    let label = row[node - 1];
+    label != BLANK && row.iter().filter(|&&other| other == label).count() == 1
 }
 
 /// The nodes of the first placing, or the first node where the row up to there has none.
@@ -40,18 +41,20 @@ pub fn first_placing(row: &[u8], streets: Streets) -> Result<Vec<Node>, usize> {
         streets,
         dead: vec![HashSet::new(); row.len()],
         passed: 0,
-        positions: Vec::new(),
+        fields: Vec::new(),
     };
     if !search.goes_on(&[]) {
         return Err(search.passed + 1);
     }
-    let placed = search.kinds.into_iter().zip(search.positions);
-    Ok(placed.map(|(kind, p)| Node { kind, p }).collect())
+    let placed = search.kinds.into_iter().zip(search.fields);
+    Ok(placed.map(|(kind, field)| Node { kind, field }).collect())
 }
 
 /// The kind of a node of a row without lone labels.
 fn kind_at(row: &[u8], at: usize) -> Kind {
-    if !row[..at].contains(&row[at]) {
+    if row[at] == BLANK {
+        Kind::Blank
+    } else if !row[..at].contains(&row[at]) {
         Kind::Begin
     } else if row[at + 1..].contains(&row[at]) {
         Kind::Middle
@@ -68,15 +71,15 @@ struct Search<'a> {
     dead: Vec<HashSet<Vec<u8>>>,
     /// The most nodes that some choice has passed.
     passed: usize,
-    /// The positions of the choice at hand, one for each node that it has passed.
-    positions: Vec<usize>,
+    /// The position fields of the choice at hand, one for each node that it has passed.
+    fields: Vec<usize>,
 }
 
 impl Search<'_> {
     /// Whether the choice at hand, which has led to `order`, can be carried to the row's end; if so
     /// it has been, by the first way there is.
     fn goes_on(&mut self, order: &[u8]) -> bool {
-        let at = self.positions.len();
+        let at = self.fields.len();
         self.passed = self.passed.max(at);
         // Every net has met its last node by then, so the order is empty.
         if at == self.row.len() {
@@ -85,36 +88,42 @@ impl Search<'_> {
         if self.dead[at].contains(order) {
             return false;
         }
-        for (p, after) in self.choices(at, order) {
-            self.positions.push(p);
+        for (field, after) in self.choices(at, order) {
+            self.fields.push(field);
             if self.goes_on(&after) {
                 return true;
             }
-            self.positions.pop();
+            self.fields.pop();
         }
         self.dead[at].insert(order.to_vec());
         false
     }
 
-    /// The positions within the limits at a node, smallest first, each with the order after it.
+    /// The position fields within the limits at a node, smallest first, each with the order after
+    /// it.
     fn choices(&self, at: usize, order: &[u8]) -> Vec<(usize, Vec<u8>)> {
         let label = self.row[at];
         match self.kinds[at] {
             Kind::Begin => {
                 let b = order.len() + 1;
                 let legal = (1..=b).filter(|&p| self.streets.broken(p, b).is_none());
-                legal.map(|p| (p, with(order, p, label))).collect()
+                legal.map(|p| (p - 1, with(order, p, label))).collect()
             }
             Kind::Middle => self.follows(order, label, order.to_vec()),
             Kind::End => self.follows(order, label, without(order, label)),
+            Kind::Blank => {
+                let b = order.len();
+                let legal = (0..=b).filter(|&s| self.streets.broken_at_blank(s, b).is_none());
+                legal.map(|s| (s, order.to_vec())).collect()
+            }
         }
     }
 
-    /// The one position of an open net, if it is within the limits.
+    /// The one position field of an open net, if it is within the limits.
     fn follows(&self, order: &[u8], label: u8, after: Vec<u8>) -> Vec<(usize, Vec<u8>)> {
         let before = order.iter().take_while(|&&net| net != label).count();
         if self.streets.broken(before + 1, order.len()).is_none() {
-            vec![(before + 1, after)]
+            vec![(before, after)]
         } else {
             Vec::new()
         }

@@ -2,13 +2,13 @@
 
 use super::bits::{field, Packer};
 use super::{refused, Kind, Streets};
-use crate::Said;
+use crate::{Said, BLANK};
 
-/// A node as the sheet has it: its kind and its net's position, from 1.
+/// A node as the sheet has it: its kind and its position field, p − 1 of its net or s of a blank.
 #[derive(Clone, Copy, Debug)]
 pub struct Node {
     pub kind: Kind,
-    pub p: usize,
+    pub field: usize,
 }
 
 /// The bits before node 1, and those of each node.
@@ -26,22 +26,27 @@ pub fn packed(streets: Streets, nodes: &[Node]) -> Vec<u8> {
     packer.put(nodes.len(), 10);
     for node in nodes {
         packer.put(node.kind as usize, 2);
-        packer.put(node.p - 1, 4);
+        packer.put(node.field, 4);
     }
     packer.into_bytes()
 }
 
-/// A node of a sheet that passed the tests, with the order there, its own net included.
+/// A node of a sheet that passed the tests, with the order there, its own net included if it
+/// has one.
 #[derive(Clone, Debug)]
 pub struct Touch {
     pub kind: Kind,
-    pub p: usize,
+    pub field: usize,
     pub order: Vec<usize>,
 }
 
 impl Touch {
-    pub fn net(&self) -> usize {
-        self.order[self.p - 1]
+    /// The net of the node, which a blank has not.
+    pub fn net(&self) -> Option<usize> {
+        match self.kind {
+            Kind::Blank => None,
+            _ => Some(self.order[self.field]),
+        }
     }
 }
 
@@ -52,15 +57,23 @@ pub struct Placing {
     pub touches: Vec<Touch>,
 }
 
-impl Placing {
-    /// The row: at most 256 nets have a first and a last node each among 512.
-    pub fn labels(&self) -> Vec<u8> {
-        self.touches.iter().map(|touch| touch.net() as u8).collect()
+/// The nets that the labels other than 255 can tell apart.
+const MOST_NETS: usize = 255;
+
+/// The row of a sheet, or the first of the reader's causes that holds; 14 is tested against `room`
+/// where there is one.
+pub fn labels(sheet: &[u8], room: Option<usize>) -> Result<Vec<u8>, Said> {
+    let touches = inspected(sheet, room)?.touches;
+    let begun = touches.iter().filter(|touch| touch.kind == Kind::Begin);
+    if begun.count() > MOST_NETS {
+        return Err(refused(23, 0));
     }
+    let label = |touch: &Touch| touch.net().map_or(BLANK, |net| net as u8);
+    Ok(touches.iter().map(label).collect())
 }
 
-/// The placing of a sheet, or the first of the reader's causes that holds; 14 is tested against
-/// `room` where there is one.
+/// The placing of a sheet, or the first of the reader's causes but 23 that holds; 14 is tested
+/// against `room` where there is one.
 pub fn inspected(sheet: &[u8], room: Option<usize>) -> Result<Placing, Said> {
     let (streets, n) = head(sheet)?;
     if room.is_some_and(|bytes| bytes < n) {
@@ -95,31 +108,28 @@ fn head(sheet: &[u8]) -> Result<(Streets, usize), Said> {
     Ok((streets, n))
 }
 
-/// The nodes, tested from the left for 15, 16, 17, 30 and 31, and then 18.
+/// The nodes, tested from the left for 16, 17, 30 and 31, and then 18.
 fn touches(sheet: &[u8], streets: Streets, n: usize) -> Result<Vec<Touch>, Said> {
     let mut touches = Vec::new();
     let mut open = Vec::new();
     let mut nets = 0;
     for node in 1..=n {
         let start = HEAD + PER_NODE * (node - 1);
-        let kind = kind(field(sheet, start, 2)).ok_or(refused(15, node))?;
-        let p = field(sheet, start + 2, 4) + 1;
+        let kind = KINDS[field(sheet, start, 2)];
+        let field = field(sheet, start + 2, 4);
         let b = open.len() + usize::from(kind == Kind::Begin);
-        if p > b {
-            return Err(refused(16, node));
-        }
-        if let Some(number) = streets.broken(p, b) {
+        if let Some(number) = fault(streets, kind, field, b) {
             return Err(refused(number, node));
         }
         if kind == Kind::Begin {
-            open.insert(p - 1, nets);
+            open.insert(field, nets);
             nets += 1;
         }
         let order = open.clone();
         if kind == Kind::End {
-            open.remove(p - 1);
+            open.remove(field);
         }
-        touches.push(Touch { kind, p, order });
+        touches.push(Touch { kind, field, order });
     }
     if open.is_empty() {
         Ok(touches)
@@ -128,6 +138,14 @@ fn touches(sheet: &[u8], streets: Streets, n: usize) -> Result<Vec<Touch>, Said>
     }
 }
 
-fn kind(value: usize) -> Option<Kind> {
-    [Kind::Begin, Kind::Middle, Kind::End].get(value).copied()
+const KINDS: [Kind; 4] = [Kind::Begin, Kind::Middle, Kind::End, Kind::Blank];
+
+/// The first of 16, 17, 30 and 31 that holds at a node with `b` open nets, its own among them.
+fn fault(streets: Streets, kind: Kind, field: usize, b: usize) -> Option<u32> {
+    match kind {
+        Kind::Blank if field > b => Some(16),
+        Kind::Blank => streets.broken_at_blank(field, b),
+        _ if field + 1 > b => Some(16),
+        _ => streets.broken(field + 1, b),
+    }
 }

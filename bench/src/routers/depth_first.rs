@@ -1,7 +1,7 @@
 //! The plain router: depth first over the choices in reading order, with a hash set of the states
 //! that were found dead.
 
-use niraflue::Said;
+use niraflue::{Said, BLANK};
 use std::collections::HashSet;
 
 /// The open nets' labels, top to bottom.
@@ -45,9 +45,10 @@ enum Kind {
     Begin = 0,
     Middle = 1,
     End = 2,
+    Blank = 3,
 }
 
-/// The kind of each node, or the first node, from 0, whose label no other has.
+/// The kind of each node, or the first node, from 0, that is no blank and whose label no other has.
 fn kinds(row: &[u8]) -> Result<Vec<Kind>, usize> {
     let (mut first, mut last) = ([None; 256], [None; 256]);
     for (i, &label) in row.iter().enumerate() {
@@ -58,6 +59,7 @@ fn kinds(row: &[u8]) -> Result<Vec<Kind>, usize> {
         first[label as usize] == Some(i),
         last[label as usize] == Some(i),
     ) {
+        _ if label == BLANK => Ok(Kind::Blank),
         (true, true) => Err(i),
         (true, false) => Ok(Kind::Begin),
         (false, true) => Ok(Kind::End),
@@ -66,8 +68,9 @@ fn kinds(row: &[u8]) -> Result<Vec<Kind>, usize> {
     row.iter().enumerate().map(kind).collect()
 }
 
-/// A search under way: the positions chosen so far, from 0, the most nodes that were passed, and
-/// the orders that are known to lead nowhere, each with the opening that it stands before.
+/// A search under way: the positions chosen so far, from 0, at a blank the wires above it, the most
+/// nodes that were passed, and the orders that are known to lead nowhere, each with the opening that
+/// it stands before.
 struct Search<'a> {
     row: &'a [u8],
     kinds: &'a [Kind],
@@ -92,6 +95,10 @@ impl Search<'_> {
         }
         match self.kinds[i] {
             Kind::Begin => self.opens(i, order),
+            Kind::Blank => {
+                self.positions[i] = order.count.saturating_sub(self.kl) as u8;
+                self.passes(i + 1, order)
+            }
             kind => self.meets(i, kind, order),
         }
     }
@@ -155,7 +162,7 @@ fn said(number: u32, place: usize) -> Said {
     }
 }
 
-/// Routes a row as document 01 says, with its numbers and places.
+/// Routes a row as documents 01 and 02 say, with their numbers and places.
 pub fn route(row: &[u8], ku: u8, kl: u8, work: &mut [u8], sheet: &mut [u8]) -> Said {
     let n = row.len();
     if !(2..=512).contains(&n) {

@@ -9,7 +9,10 @@
 //! comes to.
 //!
 //! Where the paper leaves a choice open ("use either", "pick any one") this is the first in the
-//! order in which the paper lists the possibilities, and the leftmost of several touch points.
+//! order in which the paper lists the possibilities, and the leftmost of several touch points. The
+//! paper has no blanks: here they are passed over, and get the fewest wires above them.
+
+use niraflue::BLANK;
 
 /// The most nodes of a row.
 const MOST: usize = 512;
@@ -17,12 +20,13 @@ const MOST: usize = 512;
 /// No node.
 const NONE: u16 = u16::MAX;
 
-/// The types of nodes.
+/// The types of nodes, N being a blank.
 #[derive(Clone, Copy, PartialEq)]
 enum Kind {
     B,
     M,
     E,
+    N,
 }
 
 /// What the paper takes as known of each node.
@@ -55,13 +59,15 @@ fn survey(row: &[u8], cuts: std::ops::Range<usize>) -> Survey {
 fn mark_ends(row: &[u8], survey: &mut Survey) {
     let mut seen = [false; 256];
     for (i, &label) in row.iter().enumerate() {
-        if !seen[label as usize] {
+        if label == BLANK {
+            survey.kinds[i] = Kind::N;
+        } else if !seen[label as usize] {
             survey.kinds[i] = Kind::B;
             seen[label as usize] = true;
         }
         survey.last[label as usize] = i as u16;
     }
-    for &label in row {
+    for &label in row.iter().filter(|&&label| label != BLANK) {
         survey.kinds[survey.last[label as usize] as usize] = Kind::E;
     }
 }
@@ -69,12 +75,16 @@ fn mark_ends(row: &[u8], survey: &mut Survey) {
 fn count_cuts(n: usize, survey: &mut Survey) {
     let mut open = 0;
     for i in 0..n {
-        if survey.kinds[i] == Kind::B {
-            survey.cuts[i] = open;
-            open += 1;
-        } else {
-            survey.cuts[i] = open - 1;
-            open -= (survey.kinds[i] == Kind::E) as u8;
+        match survey.kinds[i] {
+            Kind::B => {
+                survey.cuts[i] = open;
+                open += 1;
+            }
+            Kind::N => survey.cuts[i] = open,
+            kind => {
+                survey.cuts[i] = open - 1;
+                open -= (kind == Kind::E) as u8;
+            }
         }
     }
 }
@@ -154,6 +164,10 @@ fn sweep(
         touched: [0; 256],
     };
     for (i, &net) in row.iter().enumerate() {
+        if survey.kinds[i] == Kind::N {
+            positions[i] = at.order.count.saturating_sub(kl) as u8;
+            continue;
+        }
         at.touched[net as usize] = i as u16;
         let p = if survey.kinds[i] == Kind::B {
             if at.order.count == ku + kl {
@@ -336,6 +350,7 @@ fn through(row: &[u8], survey: &Survey, zone: &Zone, four: Four, place: usize) -
     let rest = zone.start + 1..=zone.end;
     for (&net, &kind) in row[rest.clone()].iter().zip(&survey.kinds[rest]) {
         match sixth {
+            _ if kind == Kind::N => {}
             None if kind == Kind::B => sixth = Some(net),
             None if !inner.contains(&net) => return None,
             None => {}
@@ -441,12 +456,14 @@ fn in_three(row: &[u8], survey: &Survey, positions: &mut [u8]) -> Result<(), usi
     let mut order = Order::EMPTY;
     let mut next = ways.next();
     for (i, &net) in row.iter().enumerate() {
-        let p = if survey.kinds[i] != Kind::B {
-            order.find(net)
-        } else {
-            let p = placed(&order, &next, net);
-            order.insert(p, net);
-            p
+        let p = match survey.kinds[i] {
+            Kind::B => {
+                let p = placed(&order, &next, net);
+                order.insert(p, net);
+                p
+            }
+            Kind::N => order.count.saturating_sub(3),
+            _ => order.find(net),
         };
         positions[i] = p as u8;
         if survey.kinds[i] == Kind::E {
@@ -479,8 +496,9 @@ pub fn covers(ku: u8, kl: u8) -> bool {
     matches!((ku, kl), (1..=3, 1) | (2, 2) | (3, 3))
 }
 
-/// The positions, from 0, of a layout of a row of 2 to 512 nodes without lone labels; or the node,
-/// from 1, at which the sweep stops. The street pair is one that is covered.
+/// The positions, from 0, of a layout of a row of 2 to 512 nodes without lone labels, and at a blank
+/// the wires above it; or the node, from 1, at which the sweep stops. The street pair is one that is
+/// covered.
 pub fn lay(row: &[u8], ku: u8, kl: u8, positions: &mut [u8]) -> Result<(), usize> {
     match (ku, kl) {
         (_, 1) => {
@@ -496,14 +514,21 @@ pub fn lay(row: &[u8], ku: u8, kl: u8, positions: &mut [u8]) -> Result<(), usize
 mod tests {
     use crate::routers::sample::{for_each_row, Random};
     use crate::routers::{depth_first, words};
+    use niraflue::BLANK;
 
     const PAIRS: [(u8, u8); 5] = [(1, 1), (2, 1), (3, 1), (2, 2), (3, 3)];
 
-    /// Whether positions, from 0, are a placing of the row.
+    /// Whether positions, from 0, are a placing of the row, with the fewest wires above each blank.
     fn is_placing(row: &[u8], ku: usize, kl: usize, positions: &[u8]) -> bool {
         let mut order: Vec<u8> = Vec::new();
         for (i, (&net, &p)) in row.iter().zip(positions).enumerate() {
             let p = p as usize;
+            if net == BLANK {
+                if p != order.len().saturating_sub(kl) {
+                    return false;
+                }
+                continue;
+            }
             if !row[..i].contains(&net) {
                 order.insert(p, net);
             }
@@ -552,9 +577,10 @@ mod tests {
         for _ in 0..3000 {
             for (ku, kl) in PAIRS {
                 let (short, long) = (2 + random.below(30), 2 + random.below(300));
-                laid(&random.row(short, (ku + kl) as usize), ku, kl);
+                let row = random.row(short, (ku + kl) as usize);
+                laid(&random.with_blanks(&row), ku, kl);
                 let row = random.placed_row(long, ku as usize, kl as usize);
-                assert!(laid(&row, ku, kl));
+                assert!(laid(&random.with_blanks(&row), ku, kl));
             }
         }
     }

@@ -1,5 +1,7 @@
 //! Rows for tests: every short one, and random ones of a given density.
 
+use niraflue::BLANK;
+
 /// Numbers that look random, the same for the same seed (xorshift).
 pub struct Random(u64);
 
@@ -20,13 +22,13 @@ impl Random {
     pub fn row(&mut self, nodes: usize, open: usize) -> Vec<u8> {
         let mut row = Vec::new();
         let mut nets: Vec<u8> = Vec::new();
-        let mut next = self.below(256) as u8;
+        let mut next = self.below(255) as u8;
         while row.len() < nodes || !nets.is_empty() {
             let closing = row.len() >= nodes;
             if nets.is_empty() || !closing && nets.len() < open && self.below(3) > 0 {
                 row.push(next);
                 nets.push(next);
-                next = next.wrapping_add(1);
+                next = following(next);
             } else {
                 let at = self.below(nets.len());
                 row.push(nets[at]);
@@ -38,12 +40,23 @@ impl Random {
         row
     }
 
+    /// The same row with blanks put in at random, at most as many as it has nodes, and no more than
+    /// 512 nodes in all.
+    pub fn with_blanks(&mut self, row: &[u8]) -> Vec<u8> {
+        let mut row = row.to_vec();
+        let most = row.len().min(512 - row.len());
+        for _ in 0..self.below(most + 1) {
+            row.insert(self.below(row.len() + 1), BLANK);
+        }
+        row
+    }
+
     /// A row that has a placing: the same, with at most Ku + Kl nets in an order, and every pin at
     /// a position that it reaches.
     pub fn placed_row(&mut self, nodes: usize, ku: usize, kl: usize) -> Vec<u8> {
         let mut row = Vec::new();
         let mut order: Vec<u8> = Vec::new();
-        let mut next = self.below(256) as u8;
+        let mut next = self.below(255) as u8;
         while row.len() < nodes || !order.is_empty() {
             let closing = row.len() >= nodes;
             let opens = order.is_empty() || !closing && order.len() < ku + kl && self.below(3) > 0;
@@ -52,7 +65,7 @@ impl Random {
             let at = highest + self.below(count.min(ku + 1) - highest);
             if opens {
                 order.insert(at, next);
-                next = next.wrapping_add(1);
+                next = following(next);
             }
             row.push(order[at]);
             if !opens && (closing || self.below(2) == 0) {
@@ -63,20 +76,31 @@ impl Random {
     }
 }
 
+/// The next of the labels that a net may have.
+fn following(label: u8) -> u8 {
+    match label {
+        254 => 0,
+        _ => label + 1,
+    }
+}
+
 /// Gives each row of 2 to `most` nodes without lone labels once, with labels 0, 1, 2 in the order
-/// of their first nodes.
+/// of their first nodes, and blanks.
 pub fn for_each_row(most: usize, each: &mut dyn FnMut(&[u8])) {
     extend(&mut Vec::new(), &mut Vec::new(), most, each);
 }
 
 /// `times` says how often each label stands in `row`.
 fn extend(row: &mut Vec<u8>, times: &mut Vec<usize>, most: usize, each: &mut dyn FnMut(&[u8])) {
-    if !row.is_empty() && times.iter().all(|&k| k > 1) {
+    if row.len() > 1 && times.iter().all(|&k| k > 1) {
         each(row);
     }
     if row.len() == most {
         return;
     }
+    row.push(BLANK);
+    extend(row, times, most, each);
+    row.pop();
     for label in 0..=times.len() {
         if label == times.len() {
             times.push(0);

@@ -15,14 +15,15 @@
 //! **Passes.** Forward: the set after a node holds the orders that some choice meeting the limits
 //! leads to; the first node whose set is empty is the failing one. Back: an order stays if the next
 //! node leads from it to one that stays. Pick: at each opening the least position whose order
-//! stayed.
+//! stayed. A blank leaves every set as it is.
 
-use niraflue::Said;
+use niraflue::{Said, BLANK};
 
 /// The kinds of nodes, as the sheet has them.
 const OPENS: u8 = 0;
 const TOUCHES: u8 = 1;
 const ENDS: u8 = 2;
+const RESTS: u8 = 3;
 
 /// The most nodes of a row.
 const MOST: usize = 512;
@@ -156,7 +157,8 @@ const fn located(position: bool) -> [[u8; 24]; 4] {
     table
 }
 
-/// A node as the passes see it: its kind, its net's elders, and the count of nets open before it.
+/// A node as the passes see it: its kind, its net's elders (0 for a blank), and the count of nets
+/// open before it.
 #[derive(Clone, Copy, Default)]
 struct Node {
     kind: u8,
@@ -336,8 +338,24 @@ fn forward_node(sets: &mut Sets, i: usize, node: Node, streets: &Streets) -> u32
     match node.kind {
         OPENS => forward_open(sets, i, node.open, streets),
         TOUCHES => forward_touch(sets, i, node, streets),
+        RESTS => forward_rest(sets, i, node.open),
         _ => forward_end(sets, i, node, streets),
     }
+}
+
+/// A blank. Every order of the old set is in the new one: with b at most Ku + Kl some s fits. The
+/// old set is not empty.
+#[inline(always)]
+fn forward_rest(sets: &mut Sets, i: usize, open: u8) -> u32 {
+    match open {
+        0..=4 => put(sets, i, 0, word(sets, i - 1, 0)),
+        5 => put_three(sets, i, 0, three(sets, i - 1, 0)),
+        _ => {
+            put_three(sets, i, 0, three(sets, i - 1, 0));
+            put_three(sets, i, 3, three(sets, i - 1, 3));
+        }
+    }
+    1
 }
 
 /// A net begins. The order with digit p for it and rank r for the others is in the new set if p
@@ -445,7 +463,7 @@ fn forward(sets: &mut Sets, plan: &Plan, streets: &Streets) -> usize {
 fn prune_node(sets: &mut Sets, i: usize, node: Node, streets: &Streets) {
     match node.kind {
         OPENS => prune_open(sets, i, node.open),
-        TOUCHES => prune_touch(sets, i, node.open),
+        TOUCHES | RESTS => prune_touch(sets, i, node.open),
         _ => prune_end(sets, i, node, streets),
     }
 }
@@ -471,8 +489,8 @@ fn prune_open(sets: &mut Sets, i: usize, open: u8) {
     }
 }
 
-/// A net is touched. An order stays if it is in the set after the node, which is part of the one
-/// before.
+/// A net is touched, or none is. An order stays if it is in the set after the node, which is part of
+/// the one before.
 #[inline(always)]
 fn prune_touch(sets: &mut Sets, i: usize, open: u8) {
     match open {
@@ -620,8 +638,8 @@ fn choose_sixth(x: u32, rank: Rank) -> (usize, Rank) {
     (sixth, Rank { sixth, ..rank })
 }
 
-/// The positions of the first placing, from 0.
-fn pick(sets: &Sets, plan: &Plan) -> [u8; MOST] {
+/// The positions of the first placing, from 0, and at a blank the fewest wires above it.
+fn pick(sets: &Sets, plan: &Plan, kl: usize) -> [u8; MOST] {
     let mut positions = [0; MOST];
     let mut rank = Rank::default();
     let mut i = 0;
@@ -631,6 +649,8 @@ fn pick(sets: &Sets, plan: &Plan) -> [u8; MOST] {
         let p;
         if node.kind == OPENS {
             (p, rank) = choose(sets, i, rank, open);
+        } else if node.kind == RESTS {
+            p = open.saturating_sub(kl);
         } else {
             p = position(rank, net, open);
             if node.kind == ENDS {
@@ -643,7 +663,7 @@ fn pick(sets: &Sets, plan: &Plan) -> [u8; MOST] {
     positions
 }
 
-/// The first and last node of each label, from 0.
+/// The first and last node of each label, from 0; those of blanks differ, and are no nodes.
 struct Labels {
     first: [u16; 256],
     last: [u16; 256],
@@ -654,6 +674,7 @@ fn first_nodes(row: &[u8]) -> [u16; 256] {
     for (i, &label) in row.iter().enumerate().rev() {
         first[label as usize] = i as u16;
     }
+    first[BLANK as usize] = MOST as u16;
     first
 }
 
@@ -662,10 +683,11 @@ fn last_nodes(row: &[u8]) -> [u16; 256] {
     for (i, &label) in row.iter().enumerate() {
         last[label as usize] = i as u16;
     }
+    last[BLANK as usize] = MOST as u16 + 1;
     last
 }
 
-/// The first node, from 0, whose label no other has.
+/// The first node, from 0, that is no blank and whose label no other has.
 fn lone(row: &[u8], labels: &Labels) -> Option<usize> {
     row.iter()
         .position(|&label| labels.first[label as usize] == labels.last[label as usize])
@@ -712,6 +734,8 @@ fn kind(labels: &Labels, i: usize, label: u8) -> u8 {
         OPENS
     } else if labels.last[label as usize] as usize == i {
         ENDS
+    } else if label == BLANK {
+        RESTS
     } else {
         TOUCHES
     }
@@ -726,17 +750,17 @@ fn tell(row: &[u8], labels: &Labels, tracks: u32) -> Plan {
     let mut line = Line::default();
     for (i, (&label, node)) in row.iter().zip(plan.nodes.iter_mut()).enumerate() {
         let (kind, open) = (kind(labels, i, label), line.count);
-        let net = if kind == OPENS {
-            open
-        } else {
-            find(line, label)
+        let net = match kind {
+            OPENS => open,
+            RESTS => 0,
+            _ => find(line, label),
         };
         if kind == OPENS && open == tracks {
             break;
         }
         line = match kind {
             OPENS => join(line, label),
-            TOUCHES => line,
+            TOUCHES | RESTS => line,
             _ => leave(line, net),
         };
         *node = Node {
@@ -786,7 +810,7 @@ fn search(
         return Some(passed + 1);
     }
     prune(sets, &plan, streets);
-    let positions = pick(sets, &plan);
+    let positions = pick(sets, &plan, kl as usize);
     write(sheet, &plan, &positions, ku, kl);
     None
 }
@@ -798,7 +822,7 @@ const fn said(number: u32, place: usize) -> Said {
     }
 }
 
-/// Routes a row as document 01 says, with its numbers and places.
+/// Routes a row as documents 01 and 02 say, with their numbers and places.
 pub fn route(row: &[u8], ku: u8, kl: u8, work: &mut [u8], sheet: &mut [u8]) -> Said {
     let n = row.len();
     if !(2..=MOST).contains(&n) {
@@ -899,10 +923,14 @@ mod tests {
         held
     }
 
-    /// The orders that a node leads to, by document 01's street rules.
+    /// The orders that a node leads to, by the street rules.
     fn after(order: &Order, node: super::Node, ku: usize, kl: usize) -> Vec<Order> {
         let fits = |p: usize, b: usize| p <= ku && b - 1 - p <= kl;
         let b = order.len();
+        if node.kind == super::RESTS {
+            let passed = (0..=b).any(|s| s <= ku && b - s <= kl);
+            return if passed { vec![order.clone()] } else { vec![] };
+        }
         if node.kind == super::OPENS {
             let with = |p: usize| [&order[..p], &[node.net], &order[p..]].concat();
             return (0..=b).filter(|&p| fits(p, b + 1)).map(with).collect();
@@ -937,7 +965,8 @@ mod tests {
         let mut new = orders(now);
         new.retain(|order| reaches(order, &old));
         assert_eq!(held(&sets, 1, now), new, "forward");
-        assert!(node.kind == super::OPENS || (said == 0) == new.is_empty());
+        let never_empties = [super::OPENS, super::RESTS].contains(&node.kind);
+        assert!(never_empties || (said == 0) == new.is_empty());
         new.retain(|_| random.below(2) == 0);
         fill(&mut sets, 1, &new);
         super::prune_node(&mut sets, 1, node, streets);
@@ -957,11 +986,14 @@ mod tests {
     fn each_step_is_that_of_its_orders() {
         let mut random = Random::new(4);
         for (ku, kl, open) in (0..16 * 7).map(|k| (k / 28, k / 7 % 4, (k % 7) as u8)) {
-            for kind in super::OPENS..=super::ENDS {
-                let opens = kind == super::OPENS;
-                let nets = if opens { open..open + 1 } else { 0..open };
-                let most = ku + kl - (opens && ku + kl > 0) as usize;
-                for net in nets.filter(|_| open as usize <= most && ku + kl > 0) {
+            for kind in super::OPENS..=super::RESTS {
+                let nets = match kind {
+                    super::OPENS => open..open + 1,
+                    super::RESTS => 0..1,
+                    _ => 0..open,
+                };
+                let there = open as usize + (kind == super::OPENS) as usize;
+                for net in nets.filter(|_| there <= ku + kl) {
                     let node = super::Node { kind, net, open };
                     (0..30).for_each(|_| try_step(&mut random, node, ku, kl));
                 }
@@ -981,7 +1013,8 @@ mod tests {
                 }
             }
         });
-        assert_eq!((accepted + refused) / 16, 1 + 1 + 4 + 11 + 41 + 162 + 715);
+        let rows = 2 + 5 + 15 + 52 + 203 + 877 + 4140;
+        assert_eq!((accepted + refused) / 16, rows);
         assert!(accepted > 3000 && refused > 3000);
     }
 
@@ -992,7 +1025,8 @@ mod tests {
         for _ in 0..6000 {
             let (ku, kl) = (random.below(4) as u8, random.below(4) as u8);
             let (nodes, open) = (2 + random.below(60), 1 + random.below(7));
-            match compare(&random.row(nodes, open), ku, kl) {
+            let row = random.row(nodes, open);
+            match compare(&random.with_blanks(&row), ku, kl) {
                 0 => accepted += 1,
                 6 => refused += 1,
                 number => panic!("{number} for a row without lone labels"),
@@ -1010,10 +1044,9 @@ mod tests {
         for _ in 0..6000 {
             let (ku, kl) = (1 + random.below(3), random.below(4));
             let nodes = 2 + random.below(300);
-            assert_eq!(
-                compare(&random.placed_row(nodes, ku, kl), ku as u8, kl as u8),
-                0
-            );
+            let row = random.placed_row(nodes, ku, kl);
+            let row = random.with_blanks(&row);
+            assert_eq!(compare(&row, ku as u8, kl as u8), 0);
         }
     }
 
@@ -1031,6 +1064,7 @@ mod tests {
         assert_eq!(answer(b"aab", 4, 1, 0, 0), (2, 0));
         assert_eq!(answer(b"aab", 1, 255, 0, 0), (2, 0));
         assert_eq!(answer(b"aab", 1, 1, 0, 0), (3, 3));
+        assert_eq!(answer(b"\xffa\xff", 1, 1, 0, 0), (3, 2));
         assert_eq!(answer(b"abba", 1, 1, 359, 0), (4, 0));
         assert_eq!(answer(b"abba", 1, 1, 360, 4), (5, 0));
     }

@@ -1,7 +1,7 @@
 //! Rows, legal sheets and damage by chance.
 
 use crate::common::Random;
-use niraflue::sheet_size;
+use niraflue::{sheet_size, BLANK, MAX_NODES};
 use std::iter::repeat_n;
 
 /// A node count: mostly short, sometimes at the limits or beyond.
@@ -34,17 +34,28 @@ pub fn any_streets(random: &mut Random) -> (u8, u8) {
     }
 }
 
-/// The same nets under other labels.
+/// The same nets under other labels, and the same blanks.
 pub fn renamed(random: &mut Random, row: &[u8]) -> Vec<u8> {
-    let mut names: Vec<u8> = (0..=255).collect();
+    let mut names: Vec<u8> = (0..BLANK).collect();
     for at in (1..names.len()).rev() {
         names.swap(at, random.below(at + 1));
     }
+    names.push(BLANK);
     row.iter().map(|&label| names[usize::from(label)]).collect()
 }
 
-/// Rows of every sort: of lone labels, of nets woven by chance, with a placing under these streets,
-/// and nearly so, by a few changes or for want of one track.
+/// The same row with blanks put in by chance, and no more than 512 nodes if it has no more.
+pub fn with_blanks(random: &mut Random, row: &[u8]) -> Vec<u8> {
+    let mut row = row.to_vec();
+    let room = MAX_NODES.saturating_sub(row.len());
+    for _ in 0..random.below(room.min(2 * row.len()) + 1) {
+        row.insert(random.below(row.len() + 1), BLANK);
+    }
+    row
+}
+
+/// Rows of every sort: of blanks alone, of lone labels, of nets woven by chance, with a placing
+/// under these streets, and nearly so, by a few changes or for want of one track.
 pub fn any_row(random: &mut Random, (ku, kl): (u8, u8)) -> Vec<u8> {
     let n = any_length(random);
     let streets = match (ku.min(3), kl.min(3)) {
@@ -52,6 +63,7 @@ pub fn any_row(random: &mut Random, (ku, kl): (u8, u8)) -> Vec<u8> {
         taken => taken,
     };
     let row = match random.below(8) {
+        0 if random.below(4) == 0 => vec![BLANK; n],
         0 => {
             let labels = 1 + random.below(n / 2 + 1);
             (0..n).map(|_| random.below(labels) as u8).collect()
@@ -77,11 +89,12 @@ pub fn changed(random: &mut Random, row: &[u8]) -> Vec<u8> {
     if n < 2 {
         return row;
     }
-    match random.below(8) {
+    match random.below(9) {
         0 => row[random.below(n)] = row[random.below(n)],
         1 => row[random.below(n)] = random.below(256) as u8,
-        2 => row.truncate(n - 1),
-        3 => row.push(row[random.below(n)]),
+        2 => row[random.below(n)] = BLANK,
+        3 => row.truncate(n - 1),
+        4 => row.push(row[random.below(n)]),
         _ => swap_neighbours(random, &mut row),
     }
     row
@@ -110,12 +123,21 @@ enum Kind {
     Begin,
     Middle,
     End,
+    Blank,
+}
+
+/// How often each kind comes.
+type Weights = [usize; 4];
+
+/// Weights of a row with blanks or without.
+fn any_weights(random: &mut Random) -> Weights {
+    let [begin, middle, end, blank] = [0; 4].map(|_| 1 + random.below(8));
+    [begin, middle, end, blank * random.below(2)]
 }
 
 /// Kinds by chance of `n` nodes with at most `most` nets open at once, all of which end; for one
-/// node, which cannot be a net, a begin.
-fn kinds(random: &mut Random, n: usize, most: usize) -> Vec<Kind> {
-    let weights = [0; 3].map(|_| 1 + random.below(8));
+/// node, which cannot be a net, a begin if it is no blank.
+fn kinds(random: &mut Random, weights: Weights, n: usize, most: usize) -> Vec<Kind> {
     let mut open = 0;
     (0..n)
         .rev()
@@ -123,7 +145,7 @@ fn kinds(random: &mut Random, n: usize, most: usize) -> Vec<Kind> {
             let kind = next_kind(random, weights, open, most, left);
             open = match kind {
                 Kind::Begin => open + 1,
-                Kind::Middle => open,
+                Kind::Middle | Kind::Blank => open,
                 Kind::End => open - 1,
             };
             kind
@@ -132,18 +154,14 @@ fn kinds(random: &mut Random, n: usize, most: usize) -> Vec<Kind> {
 }
 
 /// A kind after which `left` more nodes can end every net.
-fn next_kind(
-    random: &mut Random,
-    weights: [usize; 3],
-    open: usize,
-    most: usize,
-    left: usize,
-) -> Kind {
-    let can_end = |nets: usize| nets <= left && (nets, left) != (0, 1);
+fn next_kind(random: &mut Random, weights: Weights, open: usize, most: usize, left: usize) -> Kind {
+    let blanks = weights[3] > 0;
+    let can_end = |nets: usize| nets <= left && (blanks || (nets, left) != (0, 1));
     let possible = [
         (Kind::Begin, open < most && can_end(open + 1)),
         (Kind::Middle, open > 0 && can_end(open)),
         (Kind::End, open > 0 && can_end(open - 1)),
+        (Kind::Blank, can_end(open)),
     ];
     let choices: Vec<Kind> = possible
         .into_iter()
@@ -159,59 +177,84 @@ fn next_kind(
 
 /// A row whose nets are touched in any order, so that it often has no placing.
 fn woven(random: &mut Random, n: usize, most: usize) -> Vec<u8> {
+    let weights = any_weights(random);
     let mut order = Order::default();
-    kinds(random, n, most)
+    kinds(random, weights, n, most)
         .into_iter()
         .map(|kind| {
-            let b = order.count_at(kind);
-            order.touch(kind, 1 + random.below(b))
+            let others = order.others(kind);
+            label(order.touch(kind, random.below(others + 1)))
         })
         .collect()
 }
 
 /// A row and the sheet of some legal placing of it under these streets, which may not be its first.
-pub fn legal(random: &mut Random, n: usize, (ku, kl): (u8, u8)) -> (Vec<u8>, Vec<u8>) {
+pub fn legal(random: &mut Random, n: usize, streets: (u8, u8)) -> (Vec<u8>, Vec<u8>) {
+    let weights = any_weights(random);
+    let (pins, sheet) = placed(random, weights, n, streets);
+    (pins.into_iter().map(label).collect(), sheet)
+}
+
+/// The nets and the sheet of a legal placing of 256 nets, more than the reader has labels for.
+pub fn crowded(random: &mut Random, streets: (u8, u8)) -> (Vec<Option<usize>>, Vec<u8>) {
+    let weights = [1 + random.below(8), 0, 1 + random.below(8), 0];
+    placed(random, weights, MAX_NODES, streets)
+}
+
+/// The net of each node, none at a blank, and the sheet of a legal placing.
+fn placed(
+    random: &mut Random,
+    weights: Weights,
+    n: usize,
+    (ku, kl): (u8, u8),
+) -> (Vec<Option<usize>>, Vec<u8>) {
     let (upper, lower) = (usize::from(ku), usize::from(kl));
     let mut fields = vec![(upper, 4), (lower, 2), (n, 10)];
     let mut order = Order::default();
     let most = upper + lower - random.below((upper + lower).min(3));
-    let row = kinds(random, n, most)
+    let pins = kinds(random, weights, n, most)
         .into_iter()
         .map(|kind| {
-            let b = order.count_at(kind);
-            let (lowest, highest) = (b.saturating_sub(lower).max(1), b.min(upper + 1));
-            let p = lowest + random.below(highest - lowest + 1);
-            fields.extend([(kind as usize, 2), (p - 1, 4)]);
-            order.touch(kind, p)
+            let others = order.others(kind);
+            let (least, largest) = (others.saturating_sub(lower), others.min(upper));
+            let above = least + random.below(largest - least + 1);
+            fields.extend([(kind as usize, 2), (above, 4)]);
+            order.touch(kind, above)
         })
         .collect();
-    (row, packed(&fields))
+    (pins, packed(&fields))
 }
 
-/// The open nets from the top, labelled 0, 1, 2 in the order of their first nodes.
+/// The label of a node. Only rows that are too long for the router have more nets than labels.
+fn label(net: Option<usize>) -> u8 {
+    net.map_or(BLANK, |net| (net % usize::from(BLANK)) as u8)
+}
+
+/// The open nets from the top, numbered 0, 1, 2 in the order of their first nodes.
 #[derive(Default)]
 struct Order {
-    open: Vec<u8>,
-    begun: u8,
+    open: Vec<usize>,
+    begun: usize,
 }
 
 impl Order {
-    fn count_at(&self, kind: Kind) -> usize {
-        self.open.len() + usize::from(kind == Kind::Begin)
+    /// The nets that are open at a node, its own not counted.
+    fn others(&self, kind: Kind) -> usize {
+        self.open.len() - usize::from(matches!(kind, Kind::Middle | Kind::End))
     }
 
-    /// The label at position `p` of a node.
-    fn touch(&mut self, kind: Kind, p: usize) -> u8 {
-        if kind == Kind::Begin {
-            self.open.insert(p - 1, self.begun);
-            // Only rows that are too long for the router have more nets than labels.
-            self.begun = self.begun.wrapping_add(1);
+    /// The net of a node with `above` of the others above it.
+    fn touch(&mut self, kind: Kind, above: usize) -> Option<usize> {
+        match kind {
+            Kind::Begin => {
+                self.open.insert(above, self.begun);
+                self.begun += 1;
+                Some(self.open[above])
+            }
+            Kind::Middle => Some(self.open[above]),
+            Kind::End => Some(self.open.remove(above)),
+            Kind::Blank => None,
         }
-        let label = self.open[p - 1];
-        if kind == Kind::End {
-            self.open.remove(p - 1);
-        }
-        label
     }
 }
 

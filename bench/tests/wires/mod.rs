@@ -43,10 +43,10 @@ impl Wire {
 /// The indices of the wires at each point that a wire covers.
 type ByPoint = HashMap<(i32, i32), Vec<usize>>;
 
-/// Panics unless the film of a row, its nets numbered from 0 in the order of their first nodes, obeys
-/// the wire rules under these streets.
-pub fn assert_obeyed(row: &[u8], (ku, kl): (u8, u8), film: &[Record]) {
-    let case = format!("row {} Ku {ku} Kl {kl}", hex(row));
+/// Panics unless the film of a row obeys the wire rules under these streets; `pins` has the net of
+/// each node, from 0 in the order of their first nodes, and none at a blank.
+pub fn assert_obeyed(pins: &[Option<usize>], (ku, kl): (u8, u8), film: &[Record]) {
+    let case = format!("pins {pins:?} Ku {ku} Kl {kl}");
     let wires: Vec<Wire> = film.iter().map(Wire::of).collect();
     for wire in wires.iter().filter(|wire| wire.is_horizontal()) {
         let level = wire.from.1;
@@ -55,7 +55,7 @@ pub fn assert_obeyed(row: &[u8], (ku, kl): (u8, u8), film: &[Record]) {
     }
     assert_one_horizontal_a_cut(&wires, &case);
     let on = wires_by_point(&wires, &case);
-    assert_pins_joined(row, &wires, &on, &case);
+    assert_pins_joined(pins, &wires, &on, &case);
 }
 
 /// A cut strictly between two columns meets at most one horizontal of a net.
@@ -86,18 +86,19 @@ fn wires_by_point(wires: &[Wire], case: &str) -> ByPoint {
     on
 }
 
-/// Each net is one piece that has the pins of all its nodes.
-fn assert_pins_joined(row: &[u8], wires: &[Wire], on: &ByPoint, case: &str) {
+/// Each net is one piece that has the pins of all its nodes; at a blank's pin is nothing.
+fn assert_pins_joined(pins: &[Option<usize>], wires: &[Wire], on: &ByPoint, case: &str) {
     let mut pieces = HashMap::new();
-    for (at, &label) in row.iter().enumerate() {
+    for (at, &net) in pins.iter().enumerate() {
         let pin = (16 * at as i32, 0);
-        let there = on.get(&pin);
-        let wire = there.unwrap_or_else(|| panic!("no wire at {pin:?}: {case}"))[0];
-        assert_eq!(wires[wire].net, usize::from(label), "at {pin:?}: {case}");
+        let wire = on.get(&pin).map(|there| there[0]);
+        let found = wire.map(|wire| wires[wire].net);
+        assert_eq!(found, net, "net at {pin:?}: {case}");
+        let Some(wire) = wire else { continue };
         let piece = pieces
-            .entry(label)
+            .entry(net)
             .or_insert_with(|| piece_of(wire, wires, on));
-        assert!(piece.contains(&wire), "net {label} is in pieces: {case}");
+        assert!(piece.contains(&wire), "net {net:?} is in pieces: {case}");
     }
     let reached: usize = pieces.values().map(HashSet::len).sum();
     assert_eq!(reached, wires.len(), "a wire that no pin has: {case}");

@@ -58,11 +58,11 @@ pub fn fault_said(e: Fault) -> Said
         Fault::Head => tell(11, 0),
         Fault::Tracks => tell(12, 0),
         Fault::Length => tell(13, 0),
-        Fault::Kind(i) => tell(15, i),
         Fault::Position(i) => tell(16, i),
         Fault::Street(l, i) => tell(limit_number(l), i),
         Fault::Open(n) => tell(18, n),
         Fault::Padding => tell(19, 0),
+        Fault::Nets => tell(23, 0),
     }
 }
 

@@ -3,23 +3,23 @@ use mathlib.Core.Path.{_≡_, refl}
 use mathlib.Core.Bool.{Bool, true, false, not}
 use mathlib.Core.List.{List, [], _∷_}
 use mathlib.Core.Option.{Option, none, some, Option·map}
-use Prim.Native.Nat.{ℕ, suc, _+_, _-_, _*_, _≤_, _<_}
+use Prim.Native.Nat.{ℕ, suc, _+_, _*_, _≤_, _<_}
 use native.Mathlib.Omega.{arith}
 use lib.ListN.{length, take}
-use lib.Dec.{eqb, leb, ltb}
+use lib.Dec.{leb, ltb}
 use Rattle.rules.specs.declared.Limits.{Limits}
 use Rattle.rules.specs.declared.Limits.the-variants.{Met, Upper, Lower, Sum}
 use Rattle.rules.specs.declared.Fault.{Fault}
-use Rattle.rules.specs.declared.Fault.the-variants.{Head, Tracks, Length, Kind as NoKind, Position, Open, Padding}
+use Rattle.rules.specs.declared.Fault.the-variants.{Head, Tracks, Length, Position, Open, Padding, Nets}
 use Rattle.rules.specs.declared.Routing.{Routing}
 use Rattle.rules.specs.declared.Reading.{Reading}
 use Rattle.rules.specs.declared.Drawing.{Drawing}
 use Rattle.rules.specs.Basic.{keep, orElse, settle, isNone}
 use Rattle.rules.specs.Row.{lone, nodes}
-use Rattle.rules.specs.Street.{counted, limits, way, first, failing}
+use Rattle.rules.specs.Street.{last, limitsAt, counted, way, first, failing}
 use Rattle.rules.specs.Sheet.{takes, kindIn, size, Entry, entry, upperOf, lowerOf, countOf, entriesOf}
 use Rattle.rules.specs.Film.{records}
-use Rattle.rules.specs.Judgement.{wrongCount, head, room, broken, faultAt, left, scan, tail, middle, judge}
+use Rattle.rules.specs.Judgement.{wrongCount, head, room, broken, faultAt, left, scan, tail, middle, judge, crowded}
 use Rattle.rules.specs.Answers.{Said, faultSaid, routeSaid, readSaid, drawSaid, firstLone, refusal, outcome, routing, reading, drawing}
 use Rattle.rules.proofs.Least.{least-le}
 use Rattle.rules.proofs.SheetFields.{countOf-lt, length-entriesOf}
@@ -59,10 +59,10 @@ broken-place Sum i = omega arith
 fault-place : (ku kl i b : ℕ) (e : Entry) → placeOf faultSaid (faultAt ku kl i b e) ≤ i
 unfolding faultAt faultSaid
 fault-place ku kl i b (entry f a) =
-    or-place faultSaid (keep (eqb f 3) (NoKind i)) _ (keep-place faultSaid (eqb f 3) (NoKind i) (omega arith))
-    (or-place faultSaid (keep (leb (counted (kindIn f) b) a) (Position i)) _
-    (keep-place faultSaid (leb (counted (kindIn f) b) a) (Position i) (omega arith))
-    (broken-place (limits ku kl (suc a) (counted (kindIn f) b)) i))
+    let k = kindIn f in
+    or-place faultSaid (keep (leb (last k (counted k b)) a) (Position i)) _
+    (keep-place faultSaid (leb (last k (counted k b)) a) (Position i) (omega arith))
+    (broken-place (limitsAt k ku kl (suc a) (counted k b)) i)
 
 scan-place : (ku kl i b : ℕ) (es : List Entry) → placeOf faultSaid (scan ku kl i b es) ≤ i + length es
 unfolding scan placeOf
@@ -82,17 +82,27 @@ module _ (s : List ℕ) where
       or-place faultSaid (keep _ Head) _ (keep-place faultSaid _ Head (omega arith))
       (or-place faultSaid (keep _ Tracks) _ (keep-place faultSaid _ Tracks (omega arith)) (keep-place faultSaid _ Length (omega arith)))
 
-  rest-place : placeOf faultSaid (orElse (middle s) (tail s)) ≤ 1024
-  unfolding middle tail faultSaid
-  rest-place =
-      or-place faultSaid (middle s) (tail s)
-      (omega (arith, few, length-entriesOf s, scan-place (upperOf s) (lowerOf s) 1 0 (entriesOf s)))
-      (or-place faultSaid (keep _ (Open (countOf s))) _ (keep-place faultSaid _ (Open (countOf s)) (omega (arith, few)))
-      (keep-place faultSaid _ Padding (omega arith)))
+  middle-place : placeOf faultSaid (middle s) ≤ 1024
+  unfolding middle
+  middle-place = omega (arith, few, length-entriesOf s, scan-place (upperOf s) (lowerOf s) 1 0 (entriesOf s))
+
+  tail-place : placeOf faultSaid (tail s) ≤ 1024
+  unfolding tail faultSaid
+  tail-place =
+      or-place faultSaid (keep _ (Open (countOf s))) _ (keep-place faultSaid _ (Open (countOf s)) (omega (arith, few)))
+      (keep-place faultSaid _ Padding (omega arith))
+
+  crowded-place : placeOf faultSaid (crowded s) ≤ 1024
+  unfolding crowded faultSaid
+  crowded-place = keep-place faultSaid _ Nets (omega arith)
+
+  rest-place : placeOf faultSaid (orElse (middle s) (orElse (tail s) (crowded s))) ≤ 1024
+  rest-place = or-place faultSaid (middle s) _ middle-place (or-place faultSaid (tail s) (crowded s) tail-place crowded-place)
 
 judge-place : (s : List ℕ) → placeOf faultSaid (judge s) ≤ 1024
 unfolding judge
-judge-place s = or-place faultSaid (head s) (orElse (middle s) (tail s)) (head-place s) (rest-place s)
+judge-place s =
+    or-place faultSaid (head s) _ (head-place s) (or-place faultSaid (middle s) (tail s) (middle-place s) (tail-place s))
 
 unfit-read : (x : Option Fault) → placeOf readSaid (Option·map Reading.Unfit x) ≡ placeOf faultSaid x
 unfolding placeOf readSaid
@@ -106,7 +116,7 @@ read-place s row =
     settle-place readSaid _ (Reading.Row (countOf s))
     (or-place readSaid (Option·map Reading.Unfit (head s)) _ (omega (arith, unfit-read (head s), head-place s))
     (or-place readSaid (keep (room s row) Reading.RowShort) _ (keep-place readSaid (room s row) Reading.RowShort (omega arith))
-    (omega (arith, unfit-read (orElse (middle s) (tail s)), rest-place s))))
+    (omega (arith, unfit-read (orElse (middle s) (orElse (tail s) (crowded s))), rest-place s))))
     (omega (arith, few s)) in
     omega (arith, p)
 

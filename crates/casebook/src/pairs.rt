@@ -1,4 +1,5 @@
-// The row aabbcc.. with labels from 0 to 255, and what document 01 makes of it under 1/0: every net stands alone on track 1, from its first node to the next.
+// The row aabbcc.. with labels from 0 to 254 and then two blanks, the sheet of 256 nets, and what documents 01 and 02 make of them under 1/0: every net stands alone on
+// track 1, from its first node to the next.
 ghost use Prim.Native.Nat.{_<_};
 
 // What a buffer is to hold.
@@ -7,9 +8,11 @@ pub enum Pairs {
     Row,
     // The input of `listrow`: 1, 0 and the row.
     Input,
-    // The sheet of 512 nodes.
+    // The row's sheet.
     Sheet,
-    // The film of 512 nodes: for each net the stubs at its two nodes, and the horizontal between them.
+    // The sheet of 256 nets, which no row has.
+    Nets,
+    // The film of 256 nets: for each the stubs at its two nodes, and the horizontal between them.
     Film,
 }
 
@@ -26,11 +29,12 @@ fn byte_at(what: Pairs, i: usize) -> u8 {
         Pairs::Row => label(i),
         Pairs::Input => input_byte(i),
         Pairs::Sheet => sheet_byte(i),
+        Pairs::Nets => nets_byte(i),
         Pairs::Film => film_byte(i),
     }
 }
 
-// The label of the node behind i others.
+// The label of the node behind i others; that of the last two of 512 is 255, a blank.
 fn label(i: usize) -> u8 {
     (i / 2 % 256) as u8
 }
@@ -43,8 +47,17 @@ fn input_byte(i: usize) -> u8 {
     }
 }
 
-// Ku 1, Kl 0 and 512 are 12 00; B at p 1 and E at p 1 are the 12 bits 020.
+// The last two nodes are blanks, with s 0: the 12 bits c30.
 fn sheet_byte(i: usize) -> u8 {
+    match i {
+        384 => 0x0c,
+        385 => 0x30,
+        _ => nets_byte(i),
+    }
+}
+
+// Ku 1, Kl 0 and 512 are 12 00; B at p 1 and E at p 1 are the 12 bits 020.
+fn nets_byte(i: usize) -> u8 {
     match i {
         0 => 0x12,
         1 => 0,

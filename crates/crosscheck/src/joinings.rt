@@ -1,11 +1,17 @@
-// Every way of joining the nodes of a short row, none alone, under every pair of streets.
+// Every way of joining the nodes of a short row, none alone, under every pair of streets; and every way with some nodes blank. The ways of parting nodes into
+// nets with some alone are these: a node that is alone is left blank.
+use secondrouter::cells::KINDS;
 use secondrouter::cells::ROW;
+use secondrouter::cells::USED;
+use secondrouter::cells::carry;
 use secondrouter::cells::clear;
+use secondrouter::cells::larger;
 use secondrouter::cells::num;
 use secondrouter::cells::plus;
 use secondrouter::cells::set;
+use secondrouter::nets::LONE;
+use secondrouter::nets::NOTHING;
 use tallies::tally;
-use tallies::tally::larger;
 
 // There are 21,147 ways to part nine nodes into nets.
 const PARTINGS: usize = 21147;
@@ -40,24 +46,52 @@ fn next(store: &mut [u8], n: usize) -> bool {
     false
 }
 
-fn under_all(store: &mut [u8], words: &mut [usize], n: usize) {
+// Tests the row under every pair of streets, and counts it at word `source`.
+fn under_all(store: &mut [u8], words: &mut [usize], n: usize, source: usize) {
     for pair in 0..16 {
-        tally::add(words, tally::JOININGS, 1);
+        tally::add(words, source, 1);
         trials::trial::test(store, words, n, pair);
     }
 }
 
-fn test_parting(store: &mut [u8], words: &mut [usize], n: usize) {
-    secondrouter::nets::kinds(store, n);
-    if secondrouter::nets::lone(store, n) == 0 {
-        under_all(store, words, n);
+fn leave_blank(store: &mut [u8], i: usize) {
+    if num(store, KINDS, i) == LONE {
+        set(store, ROW, i, NOTHING);
     }
 }
 
-fn of_nodes(store: &mut [u8], words: &mut [usize], n: usize) {
+// Leaves each node blank whose label stands there only.
+fn leave_blanks(store: &mut [u8], n: usize) {
+    for i in 0..n {
+        leave_blank(store, i);
+    }
+}
+
+// Tests the row with its lone nodes blank, and puts their labels back.
+fn test_with_blanks(store: &mut [u8], words: &mut [usize], n: usize) {
+    carry(store, ROW, USED, 0, n);
+    leave_blanks(store, n);
+    under_all(store, words, n, tally::BLANK_JOININGS);
+    carry(store, USED, ROW, 0, n);
+}
+
+fn test_parting(store: &mut [u8], words: &mut [usize], n: usize, blanks: bool) {
+    secondrouter::nets::kinds(store, n);
+    if secondrouter::nets::lone(store, n) == 0 {
+        if !blanks {
+            under_all(store, words, n, tally::JOININGS);
+        }
+    } else {
+        if blanks {
+            test_with_blanks(store, words, n);
+        }
+    }
+}
+
+fn of_nodes(store: &mut [u8], words: &mut [usize], n: usize, blanks: bool) {
     clear(store, ROW, n);
     for _ in 0..PARTINGS {
-        test_parting(store, words, n);
+        test_parting(store, words, n, blanks);
         if !next(store, n) {
             return;
         }
@@ -67,14 +101,23 @@ fn of_nodes(store: &mut [u8], words: &mut [usize], n: usize) {
 // Tests every joining of 2 to 9 nodes.
 pub fn test_all(store: &mut [u8], words: &mut [usize]) {
     for n in 2..10 {
-        of_nodes(store, words, n);
+        of_nodes(store, words, n, false);
     }
-}
-
-pub fn report(words: &mut [usize]) {
     tally::report_source(
         words,
         tally::JOININGS,
         b" rows and street pairs of 2 to 9 nodes, by depth first\n",
+    );
+}
+
+// Tests every joining of 2 to 8 nodes of which at least one is blank.
+pub fn test_blanks(store: &mut [u8], words: &mut [usize]) {
+    for n in 2..9 {
+        of_nodes(store, words, n, true);
+    }
+    tally::report_source(
+        words,
+        tally::BLANK_JOININGS,
+        b" rows with blanks and street pairs of 2 to 8 nodes, by depth first\n",
     );
 }

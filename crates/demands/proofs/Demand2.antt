@@ -1,4 +1,4 @@
--- Demand 2: the reader takes exactly the sheets of placings and gives their pins back, and what is drawn obeys the wire rules.
+-- Demand 2: the reader takes exactly the sheets of placings with at most 255 nets and gives their pins back, and what is drawn obeys the wire rules.
 use mathlib.Core.Path.{_≡_, refl, sym, ap, _∙_, subst}
 use mathlib.Core.Bool.{Bool, true, false}
 use mathlib.Core.List.{List, _++_}
@@ -15,10 +15,10 @@ use Rattle.rules.specs.Basic.{keep, orElse, settle}
 use Rattle.rules.specs.Row.{SamePins}
 use Rattle.rules.specs.Sheet.{countOf, rowOf}
 use Rattle.rules.specs.Film.{records}
-use Rattle.rules.specs.Judgement.{head, room, middle, tail, judge}
+use Rattle.rules.specs.Judgement.{head, room, middle, tail, judge, crowded, readable}
 use Rattle.rules.specs.Answers.{written, reading, rowAfter, drawing, FilmAfter}
-use Rattle.rules.proofs.Accepted.{given-pins}
-use Rattle.rules.proofs.Demand2.{read-exactly}
+use Rattle.rules.proofs.Accepted.{readable-exactly, given-pins}
+use Rattle.rules.proofs.Demand2.{read-passes, read-exactly}
 use Rattle.sheet.proofs.Walks.{length-row}
 use Rattle.wires.proofs.Obeyed.{sheet-rules, sheet-tidy}
 use Rattle.demands.specs.Demands.{ReaderCall, DrawerCall, Obeying, Demand2}
@@ -27,7 +27,7 @@ use Rattle.demands.proofs.Reorder.{length-same, rules-same, tidy-same}
 -- the reader's place, where it accepts, is the sheet's node count
 row-count : (s row : List ℕ) (n : ℕ) → reading s row ≡ Reading.Row n → n ≡ countOf s
 unfolding reading orElse keep settle
-row-count s row n = go (head s) (room s row) (orElse (middle s) (tail s))
+row-count s row n = go (head s) (room s row) (orElse (middle s) (orElse (tail s) (crowded s)))
   where
     go : (a : Option Fault) (t : Bool) (b : Option Fault)
         → settle (orElse (Option·map Reading.Unfit a) (orElse (keep t Reading.RowShort) (Option·map Reading.Unfit b))) (Reading.Row (countOf s)) ≡ Reading.Row n
@@ -36,6 +36,12 @@ row-count s row n = go (head s) (room s row) (orElse (middle s) (tail s))
     go none true b e = let z : _≡_ {A = ℕ} 0 1 = cc in absurd (omega arith)
     go none false (some f) e = let z : _≡_ {A = ℕ} 0 1 = cc in absurd (omega arith)
     go none false none e = cc
+
+-- a sheet whose row is given back passes the reader's rules
+readable-back : {s : List ℕ} (c : ReaderCall s) (n : ℕ) → c .answer ≡ Reading.Row n → readable s ≡ none
+readable-back {s} c n e =
+    let q = sym (c .meets .answer) ∙ e in
+    read-passes s (c .row) .0 (q ∙ ap Reading.Row (row-count s (c .row) n q)) .0
 
 -- the row that is given back stands at the start of its buffer
 pub row-back : {s : List ℕ} (c : ReaderCall s) (n : ℕ) → c .answer ≡ Reading.Row n → take n (c .row′) ≡ rowOf s
@@ -77,6 +83,6 @@ demand-2 =
       accepted = λ {s} c h.
           let x = read-exactly s (c .row) (c .bytes) h in
           (λ e. x .0 (sym (c .meets .answer) ∙ e), λ p. c .meets .answer ∙ x .1 p);
-      given-back = λ {s} c n e x. subst (SamePins (x .row)) (sym (row-back c n e)) (given-pins s x);
+      given-back = λ {s} c n e x. subst (SamePins (x .row)) (sym (row-back c n e)) (given-pins s x (readable-exactly s .0 (readable-back c n e) .1));
       drawn = λ c k e. film-obeys c k e;
     }

@@ -18,6 +18,8 @@ use Rattle.rules.specs.Sheet.{takes, size, sheet}
 use Rattle.rules.specs.Judgement.{wrongCount}
 use Rattle.rules.specs.Answers.{written, firstLone, refusal, outcome, routing, firstSheet, sheetAfter}
 use Rattle.rules.proofs.Accepted.{length-nodes, placed-laid, length-entries}
+use Rattle.rules.proofs.Choices.{first-lowest, first-choice}
+use Rattle.rules.proofs.Blanks.{six-no-blank}
 use Rattle.rules.proofs.Demand3.{Answered, placed, stuck, answered, first-placed}
 use Rattle.router.proofs.Demand.{sheet-when-placed, six-when-stuck, first-placing-bytes, sheets-equal}
 use Rattle.demands.specs.Demands.{Checked, RouterCall, sheetOf, Demand3}
@@ -79,7 +81,7 @@ module _ {row : List ℕ} {ku kl : ℕ} (c : RouterCall row ku kl) where
     pub sheet-stands : sheetOf c ≡ firstSheet row ku kl
     unfolding written sheetAfter
     sheet-stands =
-        let f = first-placed row ku kl (c .work) (c .out) (c .bytes) passed gets in
+        let f = first-placed row ku kl (c .work) (c .out) passed gets in
         let ps = f .0 in
         let p = f .1 in
         let n : length (firstSheet row ku kl) ≡ size (length row) =
@@ -98,9 +100,11 @@ demand-3 =
       six-exactly = λ c checked. six c checked;
       failing-node = λ {row} {ku} {kl} c checked i. six-when-stuck row ku kl (c .work) (c .out) (c .answer) (c .work′) (c .out′) (c .meets) checked i;
       first-bytes = λ c got. first-bytes c got;
+      first-chosen = λ row ku kl ps f. (first-lowest ku kl (nodes row) ps f, first-choice ku kl (nodes row) ps f);
+      six-no-blank = λ {row} {ku} {kl} c checked i e. six-no-blank row ku kl (c .work) (c .out) checked i (sym (c .meets .answer) ∙ e);
       equal-exactly = λ {row} {row₂} {ku} {kl} {ku₂} {kl₂} c c₂ got got₂.
           let x =
-          sheets-equal row row₂ ku kl ku₂ kl₂ (c .work) (c .out) (c₂ .work) (c₂ .out) (c .bytes) (c₂ .bytes) (passed c got) (passed c₂ got₂)
+          sheets-equal row row₂ ku kl ku₂ kl₂ (c .work) (c .out) (c₂ .work) (c₂ .out) (passed c got) (passed c₂ got₂)
           (gets c got) (gets c₂ got₂) in
           (λ e. x .0 (sym (sheet-stands c got) ∙ e ∙ sheet-stands c₂ got₂), λ p. sheet-stands c got ∙ x .1 p ∙ sym (sheet-stands c₂ got₂));
     }

@@ -16,15 +16,15 @@ use lib.Dec.{eqb}
 use borrow.Author.Tests.{ne-eqb, eq-eqb, le-ltb}
 use Rattle.rules.specs.declared.Routing.the-variants.{RowLength, Tracks, Lone, WorkShort, SheetShort}
 use Rattle.rules.specs.Basic.{pick, tabulate, least, put, keep, andThen}
-use Rattle.rules.specs.Row.{before, home, later, B, M, Node, node, kindOf, nodeAt, nodes, lone}
-use Rattle.rules.specs.Street.{Placing, Passes, limits, met, fits, counted, stands, next, kind, step, run}
+use Rattle.rules.specs.Row.{before, blank, home, later, B, M, Node, node, kindOf, nodeAt, nodes, lone}
+use Rattle.rules.specs.Street.{Placing, Passes, limits, met, last, limitsAt, fitsAt, counted, stands, next, kind, step, run}
 use Rattle.rules.specs.Sheet.{size}
 use Rattle.rules.specs.Bits.{Below, nil, cons}
 use Rattle.rules.specs.Answers.{refusal, firstLone}
-use Rattle.rules.proofs.Fields.{below-append, below-replicate}
+use Rattle.rules.proofs.Fields.{below-append, below-replicate, below-at, below-mono}
 use Rattle.rules.proofs.Accepted.{none-orElse, none-keep, within-count, le-takes}
 use Rattle.rules.proofs.Least.{least-holds}
-use Rattle.rules.proofs.Pins.{tabulate-cong, home-le, label-home}
+use Rattle.rules.proofs.Pins.{tabulate-cong, home-le, label-home, node-net}
 use Rattle.rules.proofs.Runs.{Runs, ends-at, at-ends, runs-take}
 use Rattle.rules.proofs.Open.{ahead-later, onto}
 use Rattle.rules.proofs.Demand3.{sheet-exactly}
@@ -70,11 +70,15 @@ module _ (k : ℕ) where
   unfolding filled
   at-end i = ap (λ j. getD (replicate k 0 ++ end) (j + i) 0) (sym (length-replicate {A = ℕ} k 0)) ∙ getD-append-add (replicate k 0) end i 0
 
-  labels-low : Below 256 filled
+  labels-low : Below 255 filled
   unfolding filled
   labels-low =
       cons {x = 0} (omega arith)
       (below-append (below-replicate {x = 0} k (omega arith)) (cons {x = 1} (omega arith) (cons {x = 0} (omega arith) (cons {x = 1} (omega arith) nil))))
+
+  no-blank : (i : ℕ) → i < length filled → blank filled i ≡ false
+  unfolding blank
+  no-blank i h = ne-eqb (getD filled i 0) 255 (omega (arith, below-at labels-low i 0 h))
 
   second : ℕ
   second = suc (k + 0)
@@ -119,11 +123,11 @@ module _ (k : ℕ) where
   -- no label of it is lone
   lone-later : (i : ℕ) → later filled i ≡ true → lone filled i ≡ false
   unfolding lone
-  lone-later i e = rw e (and-false (eqb (home filled i) i))
+  lone-later i e = rw e (and-false (not (blank filled i) && eqb (home filled i) i))
 
   lone-other : (i x : ℕ) → home filled i ≡ x → (x ≡ i → ⊥) → lone filled i ≡ false
   unfolding lone
-  lone-other i x e h = rw (e, ne-eqb x i h)
+  lone-other i x e h = rw (e, ne-eqb x i h, and-false (not (blank filled i)))
 
   whole-end : (d : ℕ) → d < 3 → lone filled (suc (k + d)) ≡ false
   unfolding second
@@ -155,24 +159,24 @@ module _ (k : ℕ) where
       go (inr l) = l
 
   -- its nodes
-  node-is : (i x : ℕ) (first more : Bool) → home filled i ≡ x → eqb x i ≡ first → later filled i ≡ more → nodeAt filled i ≡ node (kindOf first more) x
-  unfolding nodeAt
-  node-is i x first more e f g = rw (e, f, g)
+  node-is : (i x : ℕ) (first more : Bool) → i < length filled → home filled i ≡ x → eqb x i ≡ first → later filled i ≡ more
+      → nodeAt filled i ≡ node (kindOf first more) x
+  node-is i x first more h e f g = node-net filled i (no-blank i h) ∙ rw (e, f, g)
 
   middle : (i : ℕ) → i < k → nodeAt filled (suc i) ≡ node M 0
   unfolding kindOf
   middle i h =
-      node-is (suc i) 0 false true (home-first (suc i) (at-first (suc i) (omega arith))) (ne-eqb 0 (suc i) (λ e. omega arith))
+      node-is (suc i) 0 false true (omega (arith, filled-length)) (home-first (suc i) (at-first (suc i) (omega arith))) (ne-eqb 0 (suc i) (λ e. omega arith))
       (later-first (suc i) (omega arith))
 
   start : nodeAt filled 0 ≡ node B 0
   unfolding kindOf
-  start = node-is 0 0 true (later filled 0) (home-first 0 (at-first 0 (omega arith))) refl refl
+  start = node-is 0 0 true (later filled 0) (omega (arith, filled-length)) (home-first 0 (at-first 0 (omega arith))) refl refl
 
   turn : nodeAt filled second ≡ node B second
   unfolding kindOf second
   turn =
-      node-is (suc (k + 0)) (suc (k + 0)) true (later filled (suc (k + 0))) (second-home (suc (k + 0)) (at-end 0)) (eq-eqb (suc (k + 0)) (suc (k + 0)) refl)
+      node-is (suc (k + 0)) (suc (k + 0)) true (later filled (suc (k + 0))) (omega (arith, filled-length)) (second-home (suc (k + 0)) (at-end 0)) (eq-eqb (suc (k + 0)) (suc (k + 0)) refl)
       refl
 
   rest : List Node
@@ -188,12 +192,12 @@ module _ (k : ℕ) where
 
   -- the first k nodes pass
   stay : (j : ℕ) → run 1 0 (replicate j (node M 0)) (0 ∷ []) (replicate j 1) ≡ some (0 ∷ [])
-  unfolding run step stands fits limits met next kind counted keep andThen pick before
+  unfolding run step stands limits met last limitsAt fitsAt next kind counted keep andThen pick before
   stay zero = refl
   stay (suc j) = stay j
 
   along : Runs 1 0 (node B 0 ∷ replicate k (node M 0)) [] (1 ∷ replicate k 1)
-  unfolding run step stands fits limits met next kind counted keep andThen pick before put
+  unfolding run step stands limits met last limitsAt fitsAt next kind counted keep andThen pick before put
   along = at-ends (λ w. true) (stay k) tt
 
   passes : Passes 1 0 (take k (nodes filled))
@@ -206,14 +210,14 @@ module _ (k : ℕ) where
 
   -- and the second net finds no track
   full : (j x : ℕ) (ns : List Node) (ps w : List ℕ) → run 1 0 (replicate j (node M 0) ++ node B x ∷ ns) (0 ∷ []) ps ≡ some w → ⊥
-  unfolding run next counted kind
+  unfolding run next last counted kind
   full zero x ns [] w e = let z : _≡_ {A = ℕ} 0 1 = cc in omega arith
   full zero x ns (p ∷ ps) w e = omega (arith, onto 1 0 (node B x) ns (0 ∷ []) p ps w e .fitted .sum)
   full (suc j) x ns [] w e = let z : _≡_ {A = ℕ} 0 1 = cc in omega arith
   full (suc j) x ns (p ∷ ps) w e = full j x ns ps w (onto 1 0 (node M 0) (replicate j (node M 0) ++ node B x ∷ ns) (0 ∷ []) p ps w e .rest)
 
   no-placing : (ps : List ℕ) → Placing 1 0 (nodes filled) ps → ⊥
-  unfolding run next put counted kind
+  unfolding run next put last counted kind
   no-placing [] e = let z : _≡_ {A = ℕ} 0 1 = cc (e, ap (λ ns. run 1 0 ns [] []) shape) in omega arith
   no-placing (p ∷ ps) e =
       let later = replicate k (node M 0) ++ node B second ∷ rest in
@@ -236,7 +240,7 @@ module _ (k : ℕ) where
 pub not-the-first-nodes-alone : (k : ℕ) → k ≤ 508 → (f : Router) → MeetsRouter f → FirstNodesAlone k f → ⊥
 not-the-first-nodes-alone k short f meets a =
     let l = asked (filled k) 1 0 in
-    let b = asked-bytes (filled k) 1 0 (labels-low k) (omega arith) (omega arith) in
+    let b = asked-bytes (filled k) 1 0 (below-mono (omega arith) (labels-low k)) (omega arith) (omega arith) in
     let c = checked k short in
     let e = sym (meets l b .answer) ∙ a l (b, c) (passes k) in
     let p = sheet-exactly (filled k) 1 0 (l .work) (l .sheet) c .0 e in

@@ -2,7 +2,6 @@
 use mathlib.Core.Path.{_≡_, refl, sym, ap, _∙_, subst}
 use mathlib.Core.Bool.{Bool, true, false}
 use mathlib.Core.List.{List, [], _∷_, _++_}
-use mathlib.Core.Option.{none}
 use Prim.Native.Nat.{ℕ, suc, _+_, _-_, _*_, _≤_, _<_}
 use native.Mathlib.Omega.{arith}
 use lib.ListN.{length, getD, drop, replicate, length-append}
@@ -14,16 +13,14 @@ use Rattle.rules.specs.declared.Reading.the-variants.{Row}
 use Rattle.rules.specs.declared.Drawing.{Drawing}
 use Rattle.rules.specs.declared.Drawing.the-variants.{Film, FilmShort}
 use Rattle.rules.specs.Basic.{pick, tabulate, every, least, put, cut, keep, andThen, orElse, isNone, settle}
-use Rattle.rules.specs.Row.{before, has, joined, home, later, kindOf, nodeAt, nodes, lone}
-use Rattle.rules.specs.Street.{limits, met, fits, counted, stands, next, kind, step, firstFrom, also, way, empty, first, failing}
+use Rattle.rules.specs.Row.{Kind, B, M, E, N, before, has, blank, joined, home, later, kindOf, nodeAt, nodes, lone}
+use Rattle.rules.specs.Street.{limits, met, last, limitsAt, fitsAt, counted, stands, next, kind, step, firstFrom, also, way, empty, first, failing}
 use Rattle.rules.specs.Bits.{digits, val, pack, unpack, bytes, Below, nil, cons}
-use Rattle.rules.specs.Sheet.{takes, code, kindIn, Entry, entry, entries, entryBits, size, padding, sheetBits, sheet, upperOf, lowerOf, countOf, entryAt, entriesOf, paddingOf, begun, labelled, labels, rowOf}
-use Rattle.rules.specs.Film.{Wire, axis, upper, heightAt, target, ran, wall, bent, drawn, climb, sink, gap, opened, closed, ending, draw, records, recBits, filmBytes}
-use Rattle.rules.specs.Judgement.{wrongCount, head, room, broken, faultAt, left, scan, leftOpen, tail, middle, judge}
-use Rattle.rules.specs.Answers.{written, firstLone, refusal, outcome, routing, firstSheet, workAfter, sheetAfter, reading, rowAfter, drawing, FilmAfter, samePins, agrees}
+use Rattle.rules.specs.Sheet.{takes, code, kindIn, Entry, entry, entries, entryBits, size, padding, sheetBits, sheet, upperOf, lowerOf, countOf, entryAt, entriesOf, paddingOf, begun, begunBy, netsOf, netAt, nets, pinsOf, label, rowOf}
+use Rattle.rules.specs.Film.{Wire, axis, upper, upperAt, heightAt, target, Rec, ran, wall, bent, drawn, climb, sink, gap, opened, closed, marks, draw, records, recBits, filmBytes}
+use Rattle.rules.specs.Judgement.{wrongCount, head, room, broken, faultAt, left, scan, leftOpen, tail, middle, judge, crowded, readable}
+use Rattle.rules.specs.Answers.{written, firstLone, refusal, outcome, routing, firstSheet, workAfter, sheetAfter, reading, rowAfter, drawing, FilmAfter, alike, samePins, agrees}
 use Rattle.rules.proofs.Fields.{below-replicate}
-use Rattle.rules.proofs.SheetFields.{length-entriesOf}
-use Rattle.rules.proofs.Accepted.{judge-passed, count-within}
 use Rattle.demands.specs.Demands.{Checked, Filmed}
 use Rattle.demands.proofs.Reorder.{total, total-append, total-same}
 use Rattle.demands.proofs.Demand2.{film-count}
@@ -106,7 +103,7 @@ record Known : Type 0 where
   s5-sheet : routing abba 2 0 (asked abba 2 0 .work) (asked abba 2 0 .sheet) ≡ Sheet 4
 
 known : Known
-unfolding pick tabulate least put cut keep andThen orElse isNone settle before has home later kindOf nodeAt nodes lone limits met fits counted stands next kind step firstFrom also way empty first failing digits val pack unpack takes code entries entryBits size padding sheetBits sheet wrongCount firstLone refusal outcome routing firstSheet
+unfolding pick tabulate least put cut keep andThen orElse isNone settle before has blank home later kindOf nodeAt nodes lone limits met last limitsAt fitsAt counted stands next kind step firstFrom also way empty first failing digits val pack unpack takes code entries entryBits size padding sheetBits sheet wrongCount firstLone refusal outcome routing firstSheet
 known =
     record {
       s1 = refl;
@@ -210,31 +207,38 @@ record Seen : Type 0 where
   other : agrees abab s1 ≡ false
 
 seen : Seen
-unfolding pick tabulate every least put cut keep andThen orElse isNone settle before has joined home later kindOf nodeAt nodes lone limits met fits counted stands next kind digits val pack unpack takes code kindIn size upperOf lowerOf countOf entryAt entriesOf paddingOf begun labelled labels rowOf upper heightAt target ran wall bent drawn climb sink gap opened closed ending draw records recBits filmBytes wrongCount head room broken faultAt left scan leftOpen tail middle judge reading samePins agrees drawing total
+unfolding pick tabulate every least put cut keep andThen orElse isNone settle before has blank joined home later kindOf nodeAt nodes lone limits met last limitsAt fitsAt counted stands next kind digits val pack unpack takes code kindIn size upperOf lowerOf countOf entryAt entriesOf paddingOf begun begunBy netsOf netAt nets pinsOf label rowOf upper upperAt heightAt target ran wall bent drawn climb sink gap opened closed marks draw records recBits filmBytes wrongCount head room broken faultAt left scan leftOpen tail middle judge crowded readable reading alike samePins agrees drawing total
 seen = record { row = refl; film = refl; dark = refl; bright = refl; agreed = refl; other = refl }
 
 module _ (f : Reader) (meets : MeetsReader f) where
   pub not-turned-down : TurnsDown f → ⊥
   not-turned-down a = a s1 aa 2 (meets s1 aa s1-below-256 (cons {x = 0} (omega arith) (cons {x = 0} (omega arith) nil)) .answer ∙ seen .row)
 
--- a film has the stub of its first node at least
-draw-some : (pitch ku i n : ℕ) (ws : List Wire) (es : List Entry) → 1 ≤ length es → 1 ≤ length (draw pitch ku i n ws es)
-unfolding draw
-draw-some pitch ku i n ws [] h = absurd (omega arith)
-draw-some pitch ku i n ws (entry f a ∷ es) h =
+-- a node of a net has a stub, so that a film with a net has a record
+draw-some : (pitch ku i n m : ℕ) (ws : List Wire) (es : List Entry) → m < begunBy m es → 1 ≤ length (draw pitch ku i n ws es)
+unfolding draw begunBy begun marks
+draw-some pitch ku i n m ws [] h = absurd (omega arith)
+draw-some pitch ku i n m ws (entry f a ∷ es) h =
     let k = kindIn f in
-    let u = upper ku (suc a) in
+    let u = upperAt k ku a in
     let x = pitch * i in
     let g = gap (target k u a) (pitch * (i - 1)) ws in
     let vs = opened k n (heightAt u (suc a)) x a (g .wires) in
     let w = getD vs a (record { net = n; height = axis; since = x }) in
-    omega (arith, length-append (g .film) (wall x axis w ∷ ending k x w ++ draw pitch ku (suc i) (begun k n) (closed k a vs) es))
+    let after = draw pitch ku (suc i) (begun k n) (closed k a vs) es in
+    let some : 1 ≤ length (marks k x w) + length after = go k w after (draw-some pitch ku (suc i) (begun k n) (begun k m) (closed k a vs) es) h in
+    omega (arith, some, length-append (g .film) (marks k x w ++ after), length-append (marks k x w) after)
+  where
+    go : (k : Kind) (w : Wire) (after : List Rec) → (begun k m < begunBy (begun k m) es → 1 ≤ length after) → m < begunBy (begun k m) es
+        → 1 ≤ length (marks k (pitch * i) w) + length after
+    go B w after r h = omega arith
+    go M w after r h = omega arith
+    go E w after r h = omega arith
+    go N w after r h = omega (arith, r h)
 
-some-records : (s : List ℕ) → judge s ≡ none → 1 ≤ length (records 16 s)
-unfolding records
-some-records s e =
-    draw-some 16 (upperOf s) 0 0 [] (entriesOf s)
-    (omega (arith, length-entriesOf s, count-within (countOf s) (judge-passed s e .count)))
+some-records : (s : List ℕ) → 0 < netsOf s → 1 ≤ length (records 16 s)
+unfolding records netsOf
+some-records s h = draw-some 16 (upperOf s) 0 0 0 [] (entriesOf s) h
 
 module _ (f : Drawer) (meets : MeetsDrawer f) where
   pub not-invented : Invented f → ⊥
@@ -246,7 +250,7 @@ module _ (f : Drawer) (meets : MeetsDrawer f) where
   not-empty a =
       let m = meets (a .s) (a .film) (a .bytes .0) (a .bytes .1) in
       let c = film-count (a .s) (a .film) 0 (sym (m .answer) ∙ a .says) in
-      omega (arith, c .1, some-records (a .s) (c .0))
+      omega (arith, c .1, some-records (a .s) (a .net))
 
   pub not-nothing-drawn : NothingDrawn f → ⊥
   unfolding FilmAfter written

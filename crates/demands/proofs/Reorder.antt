@@ -2,6 +2,7 @@
 use mathlib.Core.Path.{_≡_, refl, ap, _∙_}
 use mathlib.Core.List.{List, [], _∷_, _++_, List·Memᴰ, List·Memᴰ·head, List·Memᴰ·tail, List·Memᴰ·cases-cons}
 use mathlib.Core.Logic.{_⊎_, inl, inr}
+use mathlib.Core.Option.{Option}
 use Prim.Native.Nat.{ℕ, suc, _+_}
 use native.Mathlib.Omega.{arith}
 use lib.ListN.{length}
@@ -51,12 +52,12 @@ module _ {xs ys : List Rec} (same : Reordered xs ys) where
   linked (Linked.on-one r m n a b) = Linked.on-one r (among (turned same) m) n a b
   linked (Linked.by-way v w a b) = Linked.by-way v w (linked a) (linked b)
 
-  pub rules-same : {pitch ku kl : ℕ} {row : List ℕ} → WireRules pitch ku kl row ys → WireRules pitch ku kl row xs
+  pub rules-same : {pitch ku kl : ℕ} {pins : List (Option ℕ)} → WireRules pitch ku kl pins ys → WireRules pitch ku kl pins xs
   rules-same w =
       record {
         apart = λ r r′ x y m m′. w .apart r r′ x y (among same m) (among same m′);
-        pins = λ r i m. w .pins r i (among same m);
-        joins = λ i j a b e. linked (w .joins i j a b e);
+        own = λ r i m. w .own r i (among same m);
+        joins = λ net i j e e′. linked (w .joins net i j e e′);
         cuts = λ net c. omega (arith, w .cuts net c, overs-same net c same);
         tracks = λ n h l r m. w .tracks n h l r (among same m);
       }

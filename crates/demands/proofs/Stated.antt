@@ -1,29 +1,29 @@
 -- Demand 1: every call says the number and place of the first cause that holds, and leaves its buffers in the condition that goes with that.
 use mathlib.Core.Path.{_≡_, refl, sym, ap, _∙_}
 use mathlib.Core.Bool.{Bool, true, false, not}
-use mathlib.Core.List.{List, [], _∷_, _++_, append-assoc, append-nil}
+use mathlib.Core.List.{List, [], _∷_, _++_, append-assoc}
 use mathlib.Core.Logic.{_≢_, _⊎_, inl, inr}
 use mathlib.Core.Option.{Option, none, some, Option·map}
 use Prim.Native.Nat.{ℕ, suc, _+_, _-_, _*_, _≤_}
 use native.Mathlib.Omega.{arith}
 use lib.ListN.{length}
-use lib.Dec.{leb, ltb, eqb}
+use lib.Dec.{leb, ltb}
 use Rattle.rules.specs.declared.Limits.{Limits}
 use Rattle.rules.specs.declared.Limits.the-variants.{Met, Upper, Lower, Sum}
 use Rattle.rules.specs.declared.Fault.{Fault}
-use Rattle.rules.specs.declared.Fault.the-variants.{Head, Tracks, Length, Kind as NoKind, Position, Open, Padding}
+use Rattle.rules.specs.declared.Fault.the-variants.{Head, Tracks, Length, Position, Open, Padding, Nets}
 use Rattle.rules.specs.declared.Routing.{Routing}
 use Rattle.rules.specs.declared.Reading.{Reading}
 use Rattle.rules.specs.declared.Drawing.{Drawing}
 use Rattle.rules.specs.Basic.{pick, keep, orElse, settle, isNone}
-use Rattle.rules.specs.Row.{nodes}
-use Rattle.rules.specs.Street.{counted, limits, first, failing}
-use Rattle.rules.specs.Sheet.{takes, kindIn, size, Entry, entry, upperOf, lowerOf, countOf, entriesOf, rowOf}
+use Rattle.rules.specs.Row.{Kind, B, M, E, N, nodes}
+use Rattle.rules.specs.Street.{limits, blankLimits, last, limitsAt, counted, first, failing}
+use Rattle.rules.specs.Sheet.{takes, kindIn, size, Entry, entry, upperOf, lowerOf, countOf, entriesOf, netsOf, rowOf}
 use Rattle.rules.specs.Film.{records}
-use Rattle.rules.specs.Judgement.{wrongCount, head, room, broken, faultAt, left, scan, tail, middle, judge}
+use Rattle.rules.specs.Judgement.{wrongCount, head, room, broken, faultAt, left, scan, tail, middle, judge, crowded}
 use Rattle.rules.specs.Answers.{Said, says, faultSaid, limitNumber, routeSaid, readSaid, drawSaid, firstLone, refusal, outcome, routing, written, firstSheet, cleared, workAfter, sheetAfter, reading, rowAfter, drawing, FilmAfter}
 use Rattle.rules.proofs.Accepted.{length-nodes}
-use Rattle.demands.specs.Causes.{Cause, cause, firstCause, routerCauses, headCauses, nodeCauses, endCauses, bodyCauses, readerCauses, drawerCauses}
+use Rattle.demands.specs.Causes.{Cause, cause, firstCause, routerCauses, headCauses, wireCauses, blankCauses, kindCauses, nodeCauses, endCauses, bodyCauses, readerCauses, drawerCauses}
 use Rattle.demands.specs.Demands.{Filmed, Demand1}
 
 -- what is said of an answer that may be there, or else r
@@ -65,6 +65,14 @@ module _ (cs : List Cause) (fine : Said) where
   broken-said false false true i r e = refl
   broken-said false false false i r e = e
 
+  -- of two
+  broken-blank-said : (u l : Bool) (i : ℕ) (r : Said) → r ≡ firstCause cs fine
+      → saidOr faultSaid (broken (pick u Upper (pick l Lower Met)) i) r ≡ firstCause (cause 17 i u ∷ cause 30 i l ∷ cs) fine
+  unfolding saidOr broken faultSaid limitNumber firstCause pick
+  broken-blank-said true l i r e = refl
+  broken-blank-said false true i r e = refl
+  broken-blank-said false false i r e = e
+
   module _ (s : List ℕ) where
     head-said : (r : Said) → r ≡ firstCause cs fine → saidOr faultSaid (head s) r ≡ firstCause (headCauses s ++ cs) fine
     unfolding head headCauses faultSaid
@@ -77,10 +85,38 @@ module _ (cs : List Cause) (fine : Said) where
     tail-said r e =
         then-test faultSaid _ (Open (countOf s)) 18 (countOf s) _ _ fine r refl (by-test faultSaid _ Padding 19 0 cs fine r refl e)
 
--- the three tests of a net with a above it, of c
+-- the three tests of a net with a above it, of c, and the two of a blank
 three-tests : (ku kl a c : ℕ) → limits ku kl (suc a) c ≡ pick (ltb ku a) Upper (pick (ltb kl (c - suc a)) Lower (pick (ltb (ku + kl) c) Sum Met))
 unfolding limits
 three-tests ku kl a c = let e : suc a - 1 ≡ a = omega arith in rw e
+
+two-tests : (ku kl a c : ℕ) → blankLimits ku kl (suc a - 1) c ≡ pick (ltb ku a) Upper (pick (ltb kl (c - a)) Lower Met)
+unfolding blankLimits
+two-tests ku kl a c = let e : suc a - 1 ≡ a = omega arith in rw e
+
+-- the causes at one node, before those of r
+module _ (cs : List Cause) (fine : Said) (ku kl i a c : ℕ) (r : Said) (e : r ≡ firstCause cs fine) where
+  wire-said : saidOr faultSaid (orElse (keep (leb c a) (Position i)) (broken (limits ku kl (suc a) c) i)) r ≡ firstCause (wireCauses ku kl i a c ++ cs) fine
+  unfolding wireCauses faultSaid
+  wire-said =
+      then-test faultSaid (leb c a) (Position i) 16 i (broken (limits ku kl (suc a) c) i) _ fine r refl
+      (ap (λ (x : Limits). saidOr faultSaid (broken x i) r) (three-tests ku kl a c)
+      ∙ broken-said cs fine (ltb ku a) (ltb kl (c - suc a)) (ltb (ku + kl) c) i r e)
+
+  blank-said : saidOr faultSaid (orElse (keep (ltb c a) (Position i)) (broken (blankLimits ku kl (suc a - 1) c) i)) r
+      ≡ firstCause (blankCauses ku kl i a c ++ cs) fine
+  unfolding blankCauses faultSaid
+  blank-said =
+      then-test faultSaid (ltb c a) (Position i) 16 i (broken (blankLimits ku kl (suc a - 1) c) i) _ fine r refl
+      (ap (λ (x : Limits). saidOr faultSaid (broken x i) r) (two-tests ku kl a c) ∙ broken-blank-said cs fine (ltb ku a) (ltb kl (c - a)) i r e)
+
+  kind-said : (k : Kind) → saidOr faultSaid (orElse (keep (leb (last k c) a) (Position i)) (broken (limitsAt k ku kl (suc a) c) i)) r
+      ≡ firstCause (kindCauses k ku kl i a c ++ cs) fine
+  unfolding last limitsAt kindCauses
+  kind-said B = wire-said
+  kind-said M = wire-said
+  kind-said E = wire-said
+  kind-said N = blank-said
 
 module _ (cs : List Cause) (fine : Said) (ku kl : ℕ) where
   scan-said : (i b : ℕ) (es : List Entry) (r : Said) → r ≡ firstCause cs fine
@@ -88,18 +124,12 @@ module _ (cs : List Cause) (fine : Said) (ku kl : ℕ) where
   unfolding scan faultAt nodeCauses faultSaid saidOr
   scan-said i b [] r e = e
   scan-said i b (entry f a ∷ es) r e =
-      let c = counted (kindIn f) b in
-      let k = keep (eqb f 3) (NoKind i) in
-      let p = keep (leb c a) (Position i) in
-      let l = broken (limits ku kl (suc a) c) i in
-      let next = scan ku kl (suc i) (left (kindIn f) b) es in
-      let rest = nodeCauses ku kl (suc i) (left (kindIn f) b) es ++ cs in
-      let after = saidOr faultSaid next r in
-      saidOr-or faultSaid (orElse k (orElse p l)) next r
-      ∙ then-test faultSaid (eqb f 3) (NoKind i) 15 i (orElse p l) _ fine after refl
-      (then-test faultSaid (leb c a) (Position i) 16 i l _ fine after refl
-      (ap (λ (x : Limits). saidOr faultSaid (broken x i) after) (three-tests ku kl a c)
-      ∙ broken-said rest fine (ltb ku a) (ltb kl (c - suc a)) (ltb (ku + kl) c) i after (scan-said (suc i) (left (kindIn f) b) es r e)))
+      let k = kindIn f in
+      let next = scan ku kl (suc i) (left k b) es in
+      let rest = nodeCauses ku kl (suc i) (left k b) es in
+      saidOr-or faultSaid (faultAt ku kl i b (entry f a)) next r
+      ∙ kind-said (rest ++ cs) fine ku kl i a (counted k b) (saidOr faultSaid next r) (scan-said (suc i) (left k b) es r e) k
+      ∙ ap (λ l. firstCause l fine) (sym (append-assoc (kindCauses k ku kl i a (counted k b)) rest cs))
 
 module _ (cs : List Cause) (fine : Said) (s : List ℕ) where
   body-said : (r : Said) → r ≡ firstCause cs fine → saidOr faultSaid (orElse (middle s) (tail s)) r ≡ firstCause (bodyCauses s ++ cs) fine
@@ -119,21 +149,35 @@ unfolding saidOr drawSaid
 unfit-drawn none r = refl
 unfit-drawn (some f) r = refl
 
+-- the body's causes and then 23
+nets-said : (s : List ℕ) (fine : Said)
+    → saidOr faultSaid (orElse (middle s) (orElse (tail s) (crowded s))) fine ≡ firstCause (bodyCauses s ++ (cause 23 0 (ltb 255 (netsOf s)) ∷ [])) fine
+unfolding crowded faultSaid firstCause
+nets-said s fine =
+    let last = cause 23 0 (ltb 255 (netsOf s)) ∷ [] in
+    let r = saidOr faultSaid (crowded s) fine in
+    let e : r ≡ firstCause last fine = by-test faultSaid (ltb 255 (netsOf s)) Nets 23 0 [] fine fine refl refl in
+    saidOr-or faultSaid (middle s) (orElse (tail s) (crowded s)) fine
+    ∙ ap (saidOr faultSaid (middle s)) (saidOr-or faultSaid (tail s) (crowded s) fine)
+    ∙ sym (saidOr-or faultSaid (middle s) (tail s) r)
+    ∙ body-said last fine s r e
+
 read-said : (s row : List ℕ) → readSaid (reading s row) ≡ firstCause (readerCauses s row) (says 0 (countOf s))
 unfolding reading readerCauses room readSaid firstCause
 read-said s row =
     let n = countOf s in
     let fine = says 0 n in
     let short = keep (ltb (length row) n) Reading.RowShort in
-    let body = Option·map Reading.Unfit (orElse (middle s) (tail s)) in
+    let found = orElse (middle s) (orElse (tail s) (crowded s)) in
+    let body = Option·map Reading.Unfit found in
     let upper = Option·map Reading.Unfit (head s) in
-    let b : saidOr readSaid body fine ≡ firstCause (bodyCauses s ++ []) fine = unfit-read (orElse (middle s) (tail s)) fine ∙ body-said [] fine s fine refl in
-    let b′ : saidOr readSaid body fine ≡ firstCause (bodyCauses s) fine = b ∙ ap (λ l. firstCause l fine) (append-nil (bodyCauses s)) in
+    let causes = bodyCauses s ++ (cause 23 0 (ltb 255 (netsOf s)) ∷ []) in
+    let b : saidOr readSaid body fine ≡ firstCause causes fine = unfit-read found fine ∙ nets-said s fine in
     saidOr-settle readSaid (orElse upper (orElse short body)) (Reading.Row n)
     ∙ saidOr-or readSaid upper (orElse short body) fine
     ∙ unfit-read (head s) (saidOr readSaid (orElse short body) fine)
-    ∙ head-said (cause 14 0 (ltb (length row) n) ∷ bodyCauses s) fine s (saidOr readSaid (orElse short body) fine)
-    (then-test readSaid (ltb (length row) n) Reading.RowShort 14 0 body (bodyCauses s) fine fine refl b′)
+    ∙ head-said (cause 14 0 (ltb (length row) n) ∷ causes) fine s (saidOr readSaid (orElse short body) fine)
+    (then-test readSaid (ltb (length row) n) Reading.RowShort 14 0 body causes fine fine refl b)
 
 draw-said : (s film : List ℕ) → drawSaid (drawing s film) ≡ firstCause (drawerCauses s film) (says 0 (length (records 16 s)))
 unfolding drawing judge drawerCauses drawSaid firstCause
@@ -250,12 +294,12 @@ scan-number : (ku kl i b : ℕ) (es : List Entry) → 11 ≤ numberOf faultSaid 
 unfolding numberOf scan faultAt faultSaid
 scan-number ku kl i b [] = omega arith
 scan-number ku kl i b (entry f a ∷ es) =
-    let c = counted (kindIn f) b in
-    or-number faultSaid (faultAt ku kl i b (entry f a)) (scan ku kl (suc i) (left (kindIn f) b) es)
-    (or-number faultSaid (keep (eqb f 3) (NoKind i)) _ (keep-number faultSaid (eqb f 3) (NoKind i) (omega arith))
-    (or-number faultSaid (keep (leb c a) (Position i)) _ (keep-number faultSaid (leb c a) (Position i) (omega arith))
-    (broken-number (limits ku kl (suc a) c) i)))
-    (scan-number ku kl (suc i) (left (kindIn f) b) es)
+    let k = kindIn f in
+    let past = leb (last k (counted k b)) a in
+    or-number faultSaid (faultAt ku kl i b (entry f a)) (scan ku kl (suc i) (left k b) es)
+    (or-number faultSaid (keep past (Position i)) _ (keep-number faultSaid past (Position i) (omega arith))
+    (broken-number (limitsAt k ku kl (suc a) (counted k b)) i))
+    (scan-number ku kl (suc i) (left k b) es)
 
 module _ (s : List ℕ) where
   head-number : 11 ≤ numberOf faultSaid (head s)
@@ -264,12 +308,25 @@ module _ (s : List ℕ) where
       or-number faultSaid (keep _ Head) _ (keep-number faultSaid _ Head (omega arith))
       (or-number faultSaid (keep _ Tracks) _ (keep-number faultSaid _ Tracks (omega arith)) (keep-number faultSaid _ Length (omega arith)))
 
-  body-number : 11 ≤ numberOf faultSaid (orElse (middle s) (tail s))
-  unfolding middle tail faultSaid
-  body-number =
-      or-number faultSaid (middle s) (tail s) (scan-number (upperOf s) (lowerOf s) 1 0 (entriesOf s))
-      (or-number faultSaid (keep _ (Open (countOf s))) _ (keep-number faultSaid _ (Open (countOf s)) (omega arith))
-      (keep-number faultSaid _ Padding (omega arith)))
+  middle-number : 11 ≤ numberOf faultSaid (middle s)
+  unfolding middle
+  middle-number = scan-number (upperOf s) (lowerOf s) 1 0 (entriesOf s)
+
+  tail-number : 11 ≤ numberOf faultSaid (tail s)
+  unfolding tail faultSaid
+  tail-number =
+      or-number faultSaid (keep _ (Open (countOf s))) _ (keep-number faultSaid _ (Open (countOf s)) (omega arith))
+      (keep-number faultSaid _ Padding (omega arith))
+
+  judge-number : 11 ≤ numberOf faultSaid (judge s)
+  unfolding judge
+  judge-number = or-number faultSaid (head s) _ head-number (or-number faultSaid (middle s) (tail s) middle-number tail-number)
+
+  reader-number : 11 ≤ numberOf faultSaid (orElse (middle s) (orElse (tail s) (crowded s)))
+  unfolding crowded faultSaid
+  reader-number =
+      or-number faultSaid (middle s) _ middle-number
+      (or-number faultSaid (tail s) (crowded s) tail-number (keep-number faultSaid _ Nets (omega arith)))
 
 -- so that 0 is said of acceptance alone
 module _ (s row : List ℕ) where
@@ -284,7 +341,7 @@ module _ (s row : List ℕ) where
 
   row-written : readSaid (reading s row) .number ≡ 0 → rowAfter (reading s row) s row ≡ written (rowOf s) row
   unfolding reading room readSaid rowAfter settle orElse keep numberOf answer
-  row-written h = go (head s) (ltb (length row) (countOf s)) (orElse (middle s) (tail s)) (head-number s) (body-number s) h
+  row-written h = go (head s) (ltb (length row) (countOf s)) (orElse (middle s) (orElse (tail s) (crowded s))) (head-number s) (reader-number s) h
     where
       go : (a : Option Fault) (t : Bool) (b : Option Fault) → 11 ≤ numberOf faultSaid a → 11 ≤ numberOf faultSaid b
           → readSaid (answer a t b) .number ≡ 0 → rowAfter (answer a t b) s row ≡ written (rowOf s) row
@@ -305,7 +362,7 @@ module _ (s film : List ℕ) where
   film-written (Drawing.Film k) film′ e h a = record { order = a .0; same = a .1; bytes = a .2 }
   film-written Drawing.FilmShort film′ e h a = absurd (omega arith)
   film-written (Drawing.Unfit f) film′ e h a =
-      absurd (go (judge s) (ltb (length film) (5 * length (records 16 s))) (or-number faultSaid (head s) (orElse (middle s) (tail s)) (head-number s) (body-number s)) e)
+      absurd (go (judge s) (ltb (length film) (5 * length (records 16 s))) (judge-number s) e)
     where
       go : (j : Option Fault) (t : Bool) → 11 ≤ numberOf faultSaid j
           → Drawing.Unfit f ≡ settle (orElse (Option·map Drawing.Unfit j) (keep t Drawing.FilmShort)) (Drawing.Film (length (records 16 s))) → ⊥

@@ -3,11 +3,11 @@
 -- `Routed`, `GivenBack` and `Drawn` are the contracts of router, reader and drawer: of a call they say what was lent, its answer, and what stands in the
 -- buffers afterwards. Nothing else is known of a call here, so the demands hold of any code under these contracts. What is lent are bytes.
 use mathlib.Core.Path.{_≡_}
-use mathlib.Core.Bool.{true}
-use mathlib.Core.List.{List}
+use mathlib.Core.Bool.{true, false}
+use mathlib.Core.List.{List, [], List·Memᴰ}
 use mathlib.Core.Logic.{_↔_, _≢_, _⊎_}
 use mathlib.Core.Option.{none}
-use Prim.Native.Nat.{ℕ, _*_, _≤_, _<_}
+use Prim.Native.Nat.{ℕ, suc, _*_, _≤_, _<_}
 use lib.ListN.{length, take}
 use Rattle.rules.specs.declared.Routing.{Routing}
 use Rattle.rules.specs.declared.Routing.the-variants.{Sheet, Stuck}
@@ -15,12 +15,12 @@ use Rattle.rules.specs.declared.Reading.{Reading}
 use Rattle.rules.specs.declared.Reading.the-variants.{Row}
 use Rattle.rules.specs.declared.Drawing.{Drawing}
 use Rattle.rules.specs.declared.Drawing.the-variants.{Film}
-use Rattle.rules.specs.Row.{joined, nodes, SamePins}
-use Rattle.rules.specs.Street.{Placing, IsFirst, StopsAt}
+use Rattle.rules.specs.Row.{blank, joined, nodes, SamePins}
+use Rattle.rules.specs.Street.{Placing, positions, choices, Choice, Earlier, IsFirst, StopsAt}
 use Rattle.rules.specs.Bits.{Below}
-use Rattle.rules.specs.Sheet.{size, sheet, SheetOf, upperOf, lowerOf, countOf, rowOf}
+use Rattle.rules.specs.Sheet.{size, sheet, SheetOf, upperOf, lowerOf, countOf, netsOf, pinsOf, rowOf}
 use Rattle.rules.specs.Film.{Rec, axis, records, filmBytes}
-use Rattle.rules.specs.WireRules.{Linked, WireRules, Tidy}
+use Rattle.rules.specs.WireRules.{On, Linked, WireRules, Tidy}
 use Rattle.rules.specs.Answers.{says, routeSaid, readSaid, drawSaid, firstLone, refusal, written, cleared, firstSheet, agrees, Reordered}
 use Rattle.router.specs.Routed.{Routed}
 use Rattle.sheet.specs.GivenBack.{GivenBack}
@@ -87,18 +87,19 @@ pub record Demand1 : Type 0 where
   pub reader : {s : List ℕ} (c : ReaderCall s) → ReaderStated c
   pub drawer : {s : List ℕ} (c : DrawerCall s) → DrawerStated c
 
--- the records of a film, under the sheet's tracks and with the row's labels for nets, obey the wire rules
+-- the records of a film, under the sheet's tracks and with the nets at its pins, obey the wire rules
 pub record Obeying (s film film′ : List ℕ) (k : ℕ) : Type 0 where
   pub rs : List Rec
   pub bytes : film′ ≡ written (filmBytes rs) film
   pub count : length rs ≡ k
-  pub rules : WireRules 16 (upperOf s) (lowerOf s) (rowOf s) rs
+  pub rules : WireRules 16 (upperOf s) (lowerOf s) (pinsOf s) rs
   pub tidy : Tidy (upperOf s) (lowerOf s) rs
 
 -- Demand 2. "A sheet in document 01's layout, with space lent for its row, is accepted by the reader exactly when it meets the street rules there, and gives
 -- back the joined pins. The wires drawn from it obey the published wire rules: separate nets never touch, each net joins its pins, no track is overfilled."
+-- With request 1 the reader asks for at most 255 nets too, the blanks are given back, and no wire touches one.
 pub record Demand2 : Type 0 where
-  pub accepted : {s : List ℕ} (c : ReaderCall s) → countOf s ≤ length (c .row) → c .answer ≡ Row (countOf s) ↔ SheetOf s
+  pub accepted : {s : List ℕ} (c : ReaderCall s) → countOf s ≤ length (c .row) → c .answer ≡ Row (countOf s) ↔ (SheetOf s × (netsOf s ≤ 255))
   pub given-back : {s : List ℕ} (c : ReaderCall s) (n : ℕ) → c .answer ≡ Row n → (x : SheetOf s) → SamePins (x .row) (take n (c .row′))
   pub drawn : {s : List ℕ} (c : DrawerCall s) (k : ℕ) → c .answer ≡ Film k → Obeying s (c .film) (c .film′) k
 
@@ -106,6 +107,8 @@ pub record Demand2 : Type 0 where
 -- when some placing of its wires meets the street rules at every pin, and the answer 6 otherwise. The sheet is, byte for byte, that of the first such
 -- placing: every other placing of the row that meets the rules comes later in document 01's reading order. Two rows that get sheets get equal ones exactly
 -- when they join the same pins under the same track counts."
+-- With request 1 the same pins are the same joins and the same blanks; the first placing has the smallest s at every blank, b − Kl or 0, as `positions` says,
+-- and its choices at the B nodes come first of all choices; and 6 names no blank.
 pub record Demand3 : Type 0 where
   pub sheet-exactly : {row : List ℕ} {ku kl : ℕ} (c : RouterCall row ku kl) → Checked row ku kl (c .work) (c .out)
       → c .answer ≡ Sheet (length row) ↔ ((ps : List ℕ) × Placing ku kl (nodes row) ps)
@@ -115,6 +118,11 @@ pub record Demand3 : Type 0 where
       → (i : ℕ) → c .answer ≡ Stuck i ↔ StopsAt ku kl (nodes row) i
   pub first-bytes : {row : List ℕ} {ku kl : ℕ} (c : RouterCall row ku kl) → c .answer ≡ Sheet (length row)
       → (ps : List ℕ) × IsFirst ku kl (nodes row) ps × (c .out′ ≡ written (sheet ku kl (nodes row) ps) (c .out))
+  pub first-chosen : (row : List ℕ) (ku kl : ℕ) (ps : List ℕ) → IsFirst ku kl (nodes row) ps
+      → (ps ≡ positions kl (nodes row) [] (choices (nodes row) ps))
+      × ((cs : List ℕ) → Choice ku kl (nodes row) cs → (cs ≡ choices (nodes row) ps) ⊎ Earlier (choices (nodes row) ps) cs)
+  pub six-no-blank : {row : List ℕ} {ku kl : ℕ} (c : RouterCall row ku kl) → Checked row ku kl (c .work) (c .out)
+      → (i : ℕ) → c .answer ≡ Stuck (suc i) → blank row i ≡ false
   pub equal-exactly : {row row₂ : List ℕ} {ku kl ku₂ kl₂ : ℕ} (c : RouterCall row ku kl) (c₂ : RouterCall row₂ ku₂ kl₂)
       → c .answer ≡ Sheet (length row) → c₂ .answer ≡ Sheet (length row₂)
       → take (size (length row)) (c .out′) ≡ take (size (length row₂)) (c₂ .out′) ↔ (SamePins row row₂ × (ku ≡ ku₂) × (kl ≡ kl₂))
@@ -131,12 +139,13 @@ pub record EndToEnd : Type 0 where
   -- 14 records a node are room enough for its film
   pub drawable : {row : List ℕ} {ku kl : ℕ} (c : RouterCall row ku kl) → c .answer ≡ Sheet (length row) → (d : DrawerCall (sheetOf c))
       → 5 * (14 * length row) ≤ length (d .film) → (k : ℕ) × (d .answer ≡ Film k)
-  -- the film joins two pins exactly where the row joins them
+  -- the film joins two pins exactly where the row joins them, and touches no blank
   pub joins : {row : List ℕ} {ku kl : ℕ} (c : RouterCall row ku kl) → c .answer ≡ Sheet (length row) → (d : DrawerCall (sheetOf c))
       → (k : ℕ) → d .answer ≡ Film k
       → (rs : List Rec)
       × (d .film′ ≡ written (filmBytes rs) (d .film))
       × ((i j : ℕ) → i < length row → j < length row → joined row i j ≡ true ↔ ((net : ℕ) × Linked net rs (16 * i) axis (16 * j) axis))
+      × ((i : ℕ) → i < length row → blank row i ≡ true → (r : Rec) → List·Memᴰ r rs → On r (16 * i) axis → ⊥)
   -- the same pins under the same tracks get the same answer, the same sheet, and films of the same records
   pub same-answer : {row row₂ : List ℕ} {ku kl : ℕ} (c : RouterCall row ku kl) (c₂ : RouterCall row₂ ku kl) → SamePins row row₂
       → Checked row ku kl (c .work) (c .out) → Checked row₂ ku kl (c₂ .work) (c₂ .out) → c .answer ≡ c₂ .answer

@@ -15,6 +15,7 @@ use Rattle.rules.specs.declared.Drawing.the-variants.{Film, FilmShort}
 use Rattle.rules.specs.Row.{nodes}
 use Rattle.rules.specs.Street.{Passes}
 use Rattle.rules.specs.Bits.{Below}
+use Rattle.rules.specs.Sheet.{netsOf}
 use Rattle.rules.specs.Film.{records}
 use Rattle.rules.specs.Judgement.{judge}
 use Rattle.rules.specs.Answers.{written, agrees}
@@ -100,11 +101,12 @@ MeetsDrawer f = (s film : List ℕ) → Below 256 s → Below 256 film → Drawn
 abbrev pub NothingDrawn : Drawer → Type 0
 NothingDrawn f = (s film : List ℕ) → f .film s film ≡ film
 
--- or says of some sheet that it has no records
+-- or says of some sheet with a net that it has no records
 pub record SaysEmpty (f : Drawer) : Type 0 where
   pub s : List ℕ
   pub film : List ℕ
   pub bytes : Below 256 s × Below 256 film
+  pub net : 0 < netsOf s
   pub says : f .answer s film ≡ Film 0
 
 -- invents a record count

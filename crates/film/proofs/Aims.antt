@@ -1,4 +1,4 @@
--- The height that a wire has to reach at a node, by the node's kind field, and the bounds that keep it on a track.
+-- u, and the height that a wire has to reach at a node, by the node's kind field, and the bounds that keep it on a track.
 use mathlib.Core.Path.{_≡_, refl}
 use Prim.Native.Nat.{ℕ, zero, suc, _+_, _≤_, _<_}
 use native.Mathlib.Omega.{arith}
@@ -8,10 +8,11 @@ use mir.Syntax.{w8}
 use mir.Val.{ofZ, toZ}
 use borrow.Author.Tests.{lt-ltb, le-ltb}
 use Rattle.rules.specs.Basic.{pick}
-use Rattle.rules.specs.Row.{Kind, B, M, E}
+use Rattle.rules.specs.Row.{Kind, B, M, E, N}
 use Rattle.rules.specs.Street.{counted}
 use Rattle.rules.specs.Sheet.{kindIn}
-use Rattle.rules.specs.Film.{target, heightAt}
+use Rattle.rules.specs.Film.{upper, upperAt, target, heightAt}
+use Rattle.rules.proofs.Fits.{counted-le}
 use Rattle.film.specs.declared.moves.Node.{Node}
 use Rattle.film.specs.Heights.{Reached}
 use Rattle.film.specs.Moves.{aim, Fitting}
@@ -21,11 +22,20 @@ use Rattle.film.proofs.Tracks.{kept}
 pub reached-kept : {h h′ : ℕ} (z : ℤ) → h ≡ h′ → Reached h z → Reached h′ (toZ w8 (ofZ w8 z))
 reached-kept z e r = rw (kept z (r .level), ← e) r
 
-pub counted-le : (k : Kind) (b : ℕ) → b ≤ counted k b
-unfolding counted
-counted-le B b = omega arith
-counted-le M b = omega arith
-counted-le E b = omega arith
+-- u at a blank, and at a node with a wire of its own
+pub upper-blank : (f ku a : ℕ) → 2 < f → upperAt (kindIn f) ku a ≡ a
+unfolding kindIn upperAt
+upper-blank zero ku a h = absurd (omega arith)
+upper-blank (suc zero) ku a h = absurd (omega arith)
+upper-blank (suc (suc zero)) ku a h = absurd (omega arith)
+upper-blank (suc (suc (suc f))) ku a h = refl
+
+pub upper-own : (f ku a : ℕ) → f ≤ 2 → upperAt (kindIn f) ku a ≡ upper ku (suc a)
+unfolding kindIn upperAt
+upper-own zero ku a h = refl
+upper-own (suc zero) ku a h = refl
+upper-own (suc (suc zero)) ku a h = refl
+upper-own (suc (suc (suc f))) ku a h = absurd (omega arith)
 
 -- fewer wires fit where more do
 pub fitting-less : {n : Node} {b c : ℕ} → Fitting n b → c ≤ b → Fitting n c
@@ -36,6 +46,7 @@ fitting-less {n} {b} {c} f h = record { upper = f .upper; deep = go (kindIn (n .
     go B l = omega arith
     go M l = omega arith
     go E l = omega arith
+    go N l = omega arith
 
 module _ (n : Node) (q : ℕ) (f : Fitting n (suc q)) where
   pub aim-near : q + 1 ≤ n .upper + 3
@@ -63,9 +74,11 @@ module _ (n : Node) (q : ℕ) where
       other : (k : ℕ) → (k ≡ 0 → ⊥) → kindIn k ≡ B → ⊥
       other zero g e = g refl
       other (suc zero) g e = let z : _≡_ {A = ℕ} 0 1 = cc in omega arith
-      other (suc (suc k)) g e = let z : _≡_ {A = ℕ} 0 1 = cc in omega arith
+      other (suc (suc zero)) g e = let z : _≡_ {A = ℕ} 0 1 = cc in omega arith
+      other (suc (suc (suc k))) g e = let z : _≡_ {A = ℕ} 0 1 = cc in omega arith
 
       go : (k : Kind) → kindIn (n .kind) ≡ k → heightAt (n .upper) (suc q) ≡ target k (n .upper) (n .above) q
       go B e = absurd (other (n .kind) h e)
       go M e = refl
       go E e = refl
+      go N e = refl

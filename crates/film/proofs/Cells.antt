@@ -19,7 +19,7 @@ use Rattle.street.proofs.Orders.{put-carried, put-stored, cut-moved, cut-last}
 use Rattle.film.specs.declared.wires.Wires.{Wires}
 use Rattle.film.specs.Heights.{high, Level}
 use Rattle.film.specs.Stamps.{columns}
-use Rattle.film.specs.Wires.{wire, joined, cells, listed, blank, wireAt, Fine, Sane, nil, cons, Sound, Inserted, Removed, Moved}
+use Rattle.film.specs.Wires.{wire, joined, cells, listed, missing, wireAt, Fine, Sane, nil, cons, Sound, Inserted, Removed, Moved}
 
 -- ---- three arrays as one list
 
@@ -91,11 +91,11 @@ length-listed w s = length-take-le (w .count) (cells w) (omega (arith, length-ce
 -- an open wire is what the arrays hold
 pub wire-at : (w : Wires) (k : ℕ) → Sound w → k < w .count → wireAt w k ≡ wire (getD (w .nets) k 0) (getD (w .levels) k (pos 0)) (getD (w .starts) k 0)
 wire-at w k s h =
-    getD-take (w .count) (cells w) k blank h
-    ∙ joined-at (w .nets) (w .levels) (w .starts) k blank (omega (arith, s .nets, s .few)) (omega (arith, s .levels, s .few)) (omega (arith, s .starts, s .few))
+    getD-take (w .count) (cells w) k missing h
+    ∙ joined-at (w .nets) (w .levels) (w .starts) k missing (omega (arith, s .nets, s .few)) (omega (arith, s .levels, s .few)) (omega (arith, s .starts, s .few))
 
 pub fine-at : (w : Wires) (k : ℕ) → Sound w → k < w .count → Fine (wireAt w k)
-fine-at w k s h = sane-at (s .sane) k blank (omega (arith, length-listed w s))
+fine-at w k s h = sane-at (s .sane) k missing (omega (arith, length-listed w s))
 
 -- .. and its level is one
 pub level-of : (w : Wires) (k : ℕ) → Sound w → k < w .count → Level (getD (w .levels) k (pos 0))
@@ -148,8 +148,8 @@ module _ (x : Wire) (k : ℕ) (ws : List Wire) (count : ℕ) (nets : List ℕ) (
       → Carried x k ws count (set nets i n) (set levels i (toZ w8 l)) (set starts i s) (getD nets i 0) (ofZ w8 (getD levels i (pos 0))) (getD starts i 0) (i + 1)
   carried-step h few f =
       let j : List Wire = joined nets levels starts in
-      let there : getD j i blank ≡ wire (getD nets i 0) (getD levels i (pos 0)) (getD starts i 0) =
-      joined-at nets levels starts i blank (omega (arith, c .nets-all)) (omega (arith, c .levels-all)) (omega (arith, c .starts-all)) in
+      let there : getD j i missing ≡ wire (getD nets i 0) (getD levels i (pos 0)) (getD starts i 0) =
+      joined-at nets levels starts i missing (omega (arith, c .nets-all)) (omega (arith, c .levels-all)) (omega (arith, c .starts-all)) in
       let long : count ≤ length j = omega (arith, joined-length capacity nets levels starts (c .nets-all) (c .levels-all) (c .starts-all)) in
       record {
         nets-all = length-set nets i n ∙ c .nets-all;
@@ -158,7 +158,7 @@ module _ (x : Wire) (k : ℕ) (ws : List Wire) (count : ℕ) (nets : List ℕ) (
         within = omega arith;
         same =
             rw (add-one i, toZ-ofZ w8 (getD levels i (pos 0)) f, joined-set nets levels starts i n (toZ w8 l) s, ← there)
-            (put-carried count i (wire n (toZ w8 l) s) blank j h long ∙ c .same);
+            (put-carried count i (wire n (toZ w8 l) s) missing j h long ∙ c .same);
       }
 
   pub carried-end : count ≤ i → count < capacity → Sane (take count ws) → Fine x
@@ -204,8 +204,8 @@ module _ (k : ℕ) (ws : List Wire) (last : ℕ) (nets : List ℕ) (levels : Lis
       let a : ℕ = getD nets (suc i) 0 in
       let b : ℤ = getD levels (suc i) (pos 0) in
       let d : ℕ = getD starts (suc i) 0 in
-      let there : getD j (suc i) blank ≡ wire a b d =
-      joined-at nets levels starts (suc i) blank (omega (arith, c .nets-all)) (omega (arith, c .levels-all)) (omega (arith, c .starts-all)) in
+      let there : getD j (suc i) missing ≡ wire a b d =
+      joined-at nets levels starts (suc i) missing (omega (arith, c .nets-all)) (omega (arith, c .levels-all)) (omega (arith, c .starts-all)) in
       let long : suc last ≤ length j = omega (arith, joined-length capacity nets levels starts (c .nets-all) (c .levels-all) (c .starts-all)) in
       rw (toZ-ofZ w8 (getD levels (i + 1) (pos 0)) f, add-one i)
       (record {
@@ -213,7 +213,7 @@ module _ (k : ℕ) (ws : List Wire) (last : ℕ) (nets : List ℕ) (levels : Lis
         levels-all = length-set levels i b ∙ c .levels-all;
         starts-all = length-set starts i d ∙ c .starts-all;
         within = omega arith;
-        same = rw (joined-set nets levels starts i a b d, ← there) (cut-moved (suc last) i blank j (omega arith) long ∙ c .same);
+        same = rw (joined-set nets levels starts i a b d, ← there) (cut-moved (suc last) i missing j (omega arith) long ∙ c .same);
       })
 
   pub closing-end : last ≤ i → (w : Wires) → Sound w → ws ≡ cells w → last + 1 ≡ w .count

@@ -1,4 +1,4 @@
--- What is drawn at a node, by its kind: the stub, the last run, and the wires after it.
+-- What is drawn at a node, by its kind: the stub, the last run, and the wires after it; at a blank nothing.
 use mathlib.Core.Path.{_≡_, refl, sym, ap, ap₂, _∙_}
 use mathlib.Core.List.{List, [], _∷_}
 use Prim.Native.Nat.{ℕ, zero, suc, _+_, _-_, _≤_, _<_, min, max}
@@ -8,19 +8,19 @@ use native.Mathlib.Omega.{arith}
 use lib.ListN.{length, getD}
 use lib.IntN.{ℤ, pos}
 use Rattle.rules.specs.Basic.{put}
-use Rattle.rules.specs.Row.{B, M, E}
-use Rattle.rules.specs.Street.{counted}
+use Rattle.rules.specs.Row.{B, M, E, N}
+use Rattle.rules.specs.Street.{last, counted}
 use Rattle.rules.specs.Sheet.{kindIn, begun}
 use Rattle.rules.specs.Judgement.{left}
-use Rattle.rules.specs.Film.{axis, heightAt, across, upright, recBits, Wire, ran, wall, opened, closed, ending}
+use Rattle.rules.specs.Film.{axis, heightAt, across, upright, recBits, Wire, ran, wall, opened, closed, marks}
 use Rattle.rules.proofs.Lists.{getD-put}
 use Rattle.film.specs.declared.wires.Wires.{Wires}
 use Rattle.film.specs.declared.moves.Pen.{Pen}
 use Rattle.film.specs.declared.moves.Node.{Node}
 use Rattle.film.specs.Heights.{high, Level}
 use Rattle.film.specs.Stamps.{stamp, laid}
-use Rattle.film.specs.Wires.{wire, listed, blank, wireAt, Sound, Inserted}
-use Rattle.film.specs.Nodes.{kindOf, Joinable, Joined, Open, Stubbed, Ended}
+use Rattle.film.specs.Wires.{wire, listed, missing, wireAt, Sound, Inserted}
+use Rattle.film.specs.Nodes.{kindOf, Joinable, Joined, Open, Stubbed, Ended, Skipped}
 use Rattle.film.proofs.Cells.{length-listed, wire-at}
 
 -- what stands in a list is the same whatever stands past its end
@@ -69,33 +69,39 @@ pub kind-goes-on : (f : ℕ) → f ≡ 1 → kindIn f ≡ M
 unfolding kindIn
 kind-goes-on f e = rw e
 
-pub kind-ends : (f : ℕ) → (f ≡ 0 → ⊥) → (f ≡ 1 → ⊥) → kindIn f ≡ E
+pub kind-ends : (f : ℕ) → f ≡ 2 → kindIn f ≡ E
 unfolding kindIn
-kind-ends zero p q = absurd (p refl)
-kind-ends (suc zero) p q = absurd (q refl)
-kind-ends (suc (suc f)) p q = refl
+kind-ends f e = rw e
+
+pub kind-blank : (f : ℕ) → (f ≡ 0 → ⊥) → (f ≡ 1 → ⊥) → (f ≡ 2 → ⊥) → kindIn f ≡ N
+unfolding kindIn
+kind-blank zero p q r = absurd (p refl)
+kind-blank (suc zero) p q r = absurd (q refl)
+kind-blank (suc (suc zero)) p q r = absurd (r refl)
+kind-blank (suc (suc (suc f))) p q r = refl
 
 -- ---- a node
 
 module _ (p : Pen) (n : Node) (b x : ℕ) (j : Joinable p n b x) where
   -- at a B: room for a wire with a level and a number
   pub begins-few : kindOf n ≡ B → (p .wires .count < 6) × (n .above ≤ p .wires .count) × (b < 256)
-  unfolding counted begun
+  unfolding last counted begun
   begins-few e =
       let stands = rw e at (j .stands) in
       let few = rw e at (j .few) in
       let small = rw e at (j .small) in
       omega arith
 
-  pub begins-near : n .above + 1 ≤ n .upper + 3
-  begins-near = omega (arith, j .stands, j .fitting .deep)
+  pub begins-near : kindOf n ≡ B → n .above + 1 ≤ n .upper + 3
+  unfolding last
+  begins-near e = let stands = rw e at (j .stands) in let deep = rw e at (j .fitting .deep) in omega arith
 
   pub goes-on-open : kindOf n ≡ M → Open p (n .above) x
-  unfolding counted
+  unfolding last counted
   goes-on-open e = record { sound = j .sound; stands = rw e at (j .stands); column = j .column; room = j .room }
 
   pub ends-open : kindOf n ≡ E → Open p (n .above) x
-  unfolding counted
+  unfolding last counted
   ends-open e = record { sound = j .sound; stands = rw e at (j .stands); column = j .column; room = j .room }
 
   module _ (film : List ℕ) (r : Pen) (after : List ℕ) where
@@ -104,12 +110,12 @@ module _ (p : Pen) (n : Node) (b x : ℕ) (j : Joinable p n b x) where
 
     pub joined-begins : kindOf n ≡ B → (w : Wires) (z : ℤ) → high z ≡ heightAt (n .upper) (suc (n .above)) → Inserted (p .wires) (n .above) (wire b z x) w
         → Stubbed (record { wires = w; column = p .column; drawn = p .drawn }) (n .above) x film r after → Joined p n b x film r after
-    unfolding fresh left opened closed ending
+    unfolding fresh left opened closed marks
     joined-begins e w z h i s =
         let l : listed w ≡ put (n .above) fresh (listed (p .wires)) =
         i .list ∙ ap (λ (y : ℕ). put (n .above) (record { net = b; height = y; since = x }) (listed (p .wires))) h in
         let long : n .above ≤ length (listed (p .wires)) = omega (arith, length-listed (p .wires) (j .sound), begins-few e) in
-        let its : wireAt w (n .above) ≡ fresh = ap (λ (v : List Wire). getD v (n .above) blank) l ∙ getD-put (n .above) fresh blank (listed (p .wires)) long in
+        let its : wireAt w (n .above) ≡ fresh = ap (λ (v : List Wire). getD v (n .above) missing) l ∙ getD-put (n .above) fresh missing (listed (p .wires)) long in
         let self : getD (put (n .above) fresh (listed (p .wires))) (n .above) (record { net = b; height = axis; since = x }) ≡ fresh =
         getD-put (n .above) fresh (record { net = b; height = axis; since = x }) (listed (p .wires)) long in
         record {
@@ -122,10 +128,10 @@ module _ (p : Pen) (n : Node) (b x : ℕ) (j : Joinable p n b x) where
         }
 
     same : n .above < p .wires .count → wireAt (p .wires) (n .above) ≡ getD (listed (p .wires)) (n .above) (record { net = b; height = axis; since = x })
-    same h = getD-any (listed (p .wires)) (n .above) blank (record { net = b; height = axis; since = x }) (omega (arith, length-listed (p .wires) (j .sound)))
+    same h = getD-any (listed (p .wires)) (n .above) missing (record { net = b; height = axis; since = x }) (omega (arith, length-listed (p .wires) (j .sound)))
 
     pub joined-goes-on : kindOf n ≡ M → Stubbed p (n .above) x film r after → Joined p n b x film r after
-    unfolding left opened closed ending
+    unfolding left opened closed marks
     joined-goes-on e s =
         let o = goes-on-open e in
         record {
@@ -138,7 +144,7 @@ module _ (p : Pen) (n : Node) (b x : ℕ) (j : Joinable p n b x) where
         }
 
     pub joined-ends : kindOf n ≡ E → Ended p (n .above) x film r after → Joined p n b x film r after
-    unfolding left opened closed ending
+    unfolding left opened closed marks
     joined-ends e s =
         let o = ends-open e in
         record {
@@ -148,4 +154,16 @@ module _ (p : Pen) (n : Node) (b x : ℕ) (j : Joinable p n b x) where
           column = s .column;
           records = rw e (s .records);
           bytes = rw e (s .bytes ∙ ap (λ (v : Wire). laid film (p .drawn) (wall x axis v ∷ ran x v ∷ [])) (same (o .stands)));
+        }
+
+    pub joined-blank : kindOf n ≡ N → Skipped p x r → after ≡ film → Joined p n b x film r after
+    unfolding left opened closed marks laid
+    joined-blank e s f =
+        record {
+          sound = rw (s .wires) (j .sound);
+          count = rw e (ap (λ (v : Wires). v .count) (s .wires));
+          list = rw e (ap listed (s .wires));
+          column = s .column;
+          records = rw e (omega (arith, s .records));
+          bytes = rw e f;
         }

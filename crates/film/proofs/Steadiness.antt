@@ -14,7 +14,7 @@ use Rattle.film.specs.declared.moves.Pen.{Pen}
 use Rattle.film.specs.declared.moves.Node.{Node}
 use Rattle.film.specs.declared.wires.Wires.{Wires}
 use Rattle.film.specs.Stamps.{laid}
-use Rattle.film.specs.Wires.{blank, listed, Sound}
+use Rattle.film.specs.Wires.{missing, listed, Sound}
 use Rattle.film.specs.Moves.{aim, Reaches, Steady, Swept}
 use Rattle.film.proofs.Cells.{length-listed}
 
@@ -24,7 +24,7 @@ still x ws = record { wires = ws; column = x; film = [] }
 
 -- the wires of a list, of which q stand above, have their heights to reach
 abbrev There : (ℕ → ℕ) → ℕ → List Wire → Type 0
-There t q ws = (i : ℕ) → i < length ws → getD ws i blank .height ≡ t (q + i)
+There t q ws = (i : ℕ) → i < length ws → getD ws i missing .height ≡ t (q + i)
 
 there-rest : (t : ℕ → ℕ) (q : ℕ) (w : Wire) (ws : List Wire) → There t q (w ∷ ws) → There t (suc q) ws
 there-rest t q w ws h i l = h (suc i) (omega arith) ∙ ap t (omega arith)

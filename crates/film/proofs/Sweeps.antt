@@ -19,7 +19,7 @@ use Rattle.film.specs.declared.wires.Wires.{Wires}
 use Rattle.film.specs.declared.moves.Pen.{Pen}
 use Rattle.film.specs.Heights.{high}
 use Rattle.film.specs.Stamps.{stamp, laid}
-use Rattle.film.specs.Wires.{wire, listed, blank, wireAt, Sound, Moved}
+use Rattle.film.specs.Wires.{wire, listed, missing, wireAt, Sound, Moved}
 use Rattle.film.specs.Moves.{Stepped, Swept}
 use Rattle.film.proofs.Cells.{length-listed, wire-at, height-of}
 
@@ -72,7 +72,7 @@ module _ (p : Pen) (q : ℕ) (film : List ℕ) where
       (record {
         sound = s;
         count = refl;
-        list = sym (set-getD (listed (p .wires)) q blank);
+        list = sym (set-getD (listed (p .wires)) q missing);
         column = refl;
         records = sym (add-zero (p .drawn));
         bytes = refl;
@@ -162,7 +162,7 @@ module _ (t : ℕ → ℕ) (p₀ : Pen) (film₀ : List ℕ) where
     long = omega (arith, length-listed (p .wires) (c .sound))
 
     here : drop q (listed (p .wires)) ≡ wireAt (p .wires) q ∷ drop (suc q) (listed (p .wires))
-    here = drop-cons (listed (p .wires)) q blank long
+    here = drop-cons (listed (p .wires)) q missing long
 
     opened : climb t q (p .column) (drop q (listed (p .wires)))
         ≡ record { wires = bent up (t q) (p .column) (wireAt (p .wires) q) ∷ rest .wires; column = rest .column; film = drawn up (t q) (p .column) (wireAt (p .wires) q) ++ rest .film }
@@ -217,11 +217,11 @@ module _ (t : ℕ → ℕ) (p₀ : Pen) (film₀ : List ℕ) where
       {o n : ℕ} (old : o ≡ high (getD (p₀ .wires .levels) q (pos 0))) (new : n ≡ t q) where
     stood : wireAt (p .wires) q ≡ wireAt (p₀ .wires) q
     stood =
-        ap (λ (k : ℕ). getD (listed (p .wires)) k blank) (sym (add-zero q))
-        ∙ sym (getD-drop q (listed (p .wires)) 0 blank)
-        ∙ ap (λ (l : List Wire). getD l 0 blank) (c .same)
-        ∙ getD-drop q (listed (p₀ .wires)) 0 blank
-        ∙ ap (λ (k : ℕ). getD (listed (p₀ .wires)) k blank) (add-zero q)
+        ap (λ (k : ℕ). getD (listed (p .wires)) k missing) (sym (add-zero q))
+        ∙ sym (getD-drop q (listed (p .wires)) 0 missing)
+        ∙ ap (λ (l : List Wire). getD l 0 missing) (c .same)
+        ∙ getD-drop q (listed (p₀ .wires)) 0 missing
+        ∙ ap (λ (k : ℕ). getD (listed (p₀ .wires)) k missing) (add-zero q)
 
     tested : ltb o n ≡ ltb (wireAt (p .wires) q .height) (t q)
     tested = ap₂ ltb (old ∙ height-of (p₀ .wires) q s₀ h ∙ ap (λ (w : Wire). w .height) (sym stood)) new
@@ -309,13 +309,13 @@ module _ (t : ℕ → ℕ) (p₀ : Pen) (film₀ : List ℕ) where
     within-whole = omega (arith, length-listed (p₀ .wires) s₀, c .within)
 
     abbrev w : Wire
-    w = getD whole q blank
+    w = getD whole q missing
 
     there : drop q whole ≡ w ∷ drop (suc q) whole
-    there = drop-cons whole q blank within-whole
+    there = drop-cons whole q missing within-whole
 
     front : take (suc q) whole ≡ take q whole ++ (w ∷ [])
-    front = take-suc whole q blank within-whole
+    front = take-suc whole q missing within-whole
 
     present : listed (p .wires) ≡ take q whole ++ w ∷ lower (suc q) .wires
     present =
@@ -326,9 +326,9 @@ module _ (t : ℕ → ℕ) (p₀ : Pen) (film₀ : List ℕ) where
     -- the wire at q has not moved yet
     same : wireAt (p .wires) q ≡ w
     same =
-        ap (λ (l : List Wire). getD l q blank) (c .list ∙ ap (λ (k : ℕ). take k whole ++ lower k .wires) i)
-        ∙ List·getD-append (take (suc q) whole) (lower (suc q) .wires) blank q (omega (arith, length-take-le (suc q) whole within-whole))
-        ∙ getD-take (suc q) whole q blank (omega arith)
+        ap (λ (l : List Wire). getD l q missing) (c .list ∙ ap (λ (k : ℕ). take k whole ++ lower k .wires) i)
+        ∙ List·getD-append (take (suc q) whole) (lower (suc q) .wires) missing q (omega (arith, length-take-le (suc q) whole within-whole))
+        ∙ getD-take (suc q) whole q missing (omega arith)
 
     abbrev down : Bool
     down = ltb (t q) (w .height)
@@ -392,9 +392,9 @@ module _ (t : ℕ → ℕ) (p₀ : Pen) (film₀ : List ℕ) where
 
     standing : wireAt (p .wires) q ≡ wireAt (p₀ .wires) q
     standing =
-        ap (λ (l : List Wire). getD l q blank) (c .list ∙ ap (λ (k : ℕ). take k whole ++ lower k .wires) i)
-        ∙ List·getD-append (take (suc q) whole) (lower (suc q) .wires) blank q (omega (arith, length-take-le (suc q) whole (omega (arith, length-listed (p₀ .wires) s₀, under))))
-        ∙ getD-take (suc q) whole q blank (omega arith)
+        ap (λ (l : List Wire). getD l q missing) (c .list ∙ ap (λ (k : ℕ). take k whole ++ lower k .wires) i)
+        ∙ List·getD-append (take (suc q) whole) (lower (suc q) .wires) missing q (omega (arith, length-take-le (suc q) whole (omega (arith, length-listed (p₀ .wires) s₀, under))))
+        ∙ getD-take (suc q) whole q missing (omega arith)
 
     weighed : ltb n o ≡ ltb (t q) (wireAt (p .wires) q .height)
     weighed = ap₂ ltb new (old ∙ height-of (p₀ .wires) q s₀ under ∙ ap (λ (w : Wire). w .height) (sym standing))

@@ -2,19 +2,19 @@
 use mathlib.Core.Path.{_≡_, refl, sym, ap, ap₂, _∙_}
 use mathlib.Core.List.{List, [], _∷_, _++_, append-assoc}
 use mathlib.Core.Option.{none}
-use Prim.Native.Nat.{ℕ, zero, suc, _+_, _-_, _*_, _≤_, _<_, min}
+use Prim.Native.Nat.{ℕ, zero, suc, _+_, _-_, _*_, _≤_, _<_}
 use native.Mathlib.Nat.{add-zero}
 use native.Mathlib.Numerals.{add-one}
 use native.Mathlib.Omega.{arith}
 use lib.ListN.{length, drop, length-append, length-drop}
-use Rattle.rules.specs.Row.{Kind, B, M, E}
-use Rattle.rules.specs.Street.{counted}
+use Rattle.rules.specs.Row.{Kind, B, M, E, N}
+use Rattle.rules.specs.Street.{last, counted}
 use Rattle.rules.specs.Sheet.{kindIn, Entry, entry, upperOf, lowerOf, countOf, entryAt, entriesOf, begun}
 use Rattle.rules.specs.Judgement.{left}
-use Rattle.rules.specs.Film.{upper, Rec, Wire, Sweep, gap, ending, draw, records}
-use Rattle.rules.proofs.Fits.{Fits}
+use Rattle.rules.specs.Film.{upper, upperAt, Rec, Wire, Sweep, gap, marks, draw, records}
+use Rattle.rules.proofs.Fits.{FitsAt}
+use Rattle.rules.proofs.Levels.{both-streets}
 use Rattle.rules.proofs.Legal.{Legal, then}
-use Rattle.rules.proofs.Levels.{upper-min}
 use Rattle.sheet.specs.Told.{aboveAt}
 use Rattle.sheet.proofs.Heads.{Headed}
 use Rattle.sheet.proofs.Walks.{Faultless, legal-few}
@@ -27,20 +27,33 @@ use Rattle.film.specs.declared.drawer.Walk.{Walk}
 use Rattle.film.specs.Stamps.{each, laid}
 use Rattle.film.specs.Wires.{listed, Sound, Emptied}
 use Rattle.film.specs.Moves.{aim, Swept}
-use Rattle.film.specs.Nodes.{kindOf, own, marks, going, Joinable, Joined}
+use Rattle.film.specs.Nodes.{kindOf, own, shown, going, Joinable, Joined, Open, Stubbed, Ended, Skipped}
 use Rattle.film.specs.Walks.{pitch, NodeOf, Due, crossing, strokes, Visited, Lain}
 use Rattle.film.proofs.Sweeps.{laid-append, laid-length}
+use Rattle.film.proofs.Joints.{kind-goes-on, kind-ends, kind-blank, goes-on-open, ends-open, joined-goes-on, joined-ends, joined-blank}
 
 -- ---- one node
 
-marks-few : (n : Node) (b x : ℕ) (ws : List Wire) → length (marks n b x ws) ≤ 2
-unfolding ending
-marks-few n b x ws = go (kindOf n) (own n b x ws)
+shown-few : (n : Node) (b x : ℕ) (ws : List Wire) → length (shown n b x ws) ≤ 2
+unfolding marks
+shown-few n b x ws = go (kindOf n) (own n b x ws)
   where
-    go : (k : Kind) (w : Wire) → suc (length (ending k x w)) ≤ 2
+    go : (k : Kind) (w : Wire) → length (marks k x w) ≤ 2
     go B w = omega arith
     go M w = omega arith
     go E w = omega arith
+    go N w = omega arith
+
+pub begun-more : (f b : ℕ) → f ≡ 0 → b + 1 ≡ begun (kindIn f) b
+unfolding kindIn begun
+begun-more f b e = rw e (add-one b)
+
+pub begun-same : (f b : ℕ) → (f ≡ 0 → ⊥) → b ≡ begun (kindIn f) b
+unfolding kindIn begun
+begun-same zero b h = absurd (h refl)
+begun-same (suc zero) b h = refl
+begun-same (suc (suc zero)) b h = refl
+begun-same (suc (suc (suc f))) b h = refl
 
 module _ (w : Walk) (n : Node) (i : ℕ) (d : Due w n i) (film middle : List ℕ) (c : Pen)
     (s : Swept (gap (aim n) (w .pen .column - 1) (listed (w .pen .wires))) (w .pen .wires .count + w .pen .wires .count) (w .pen) film c middle) where
@@ -72,7 +85,7 @@ module _ (w : Walk) (n : Node) (i : ℕ) (d : Due w n i) (film middle : List ℕ
   visit-visited r after b e j =
       let g : Sweep = crossing w n i in
       let x : ℕ = pitch * i in
-      let m = ap (λ (l : List Wire). length (marks n (w .begun) x l)) wires in
+      let m = ap (λ (l : List Wire). length (shown n (w .begun) x l)) wires in
       let f = ap (λ (q : Sweep). length (q .film)) from in
       record {
         sound = j .sound;
@@ -80,39 +93,53 @@ module _ (w : Walk) (n : Node) (i : ℕ) (d : Due w n i) (film middle : List ℕ
         list = j .list ∙ ap (going n (w .begun) x) wires;
         column = j .column;
         nets = e;
-        records = omega (arith, j .records, s .records, length-append (g .film) (marks n (w .begun) x (g .wires)));
+        records = omega (arith, j .records, s .records, length-append (g .film) (shown n (w .begun) x (g .wires)));
         bytes =
             j .bytes
-            ∙ ap (λ (l : List Wire). laid middle (c .drawn) (marks n (w .begun) x l)) wires
-            ∙ ap₂ (λ (k : List ℕ) (y : ℕ). laid k y (marks n (w .begun) x (g .wires)))
+            ∙ ap (λ (l : List Wire). laid middle (c .drawn) (shown n (w .begun) x l)) wires
+            ∙ ap₂ (λ (k : List ℕ) (y : ℕ). laid k y (shown n (w .begun) x (g .wires)))
             (s .bytes ∙ ap (λ (q : Sweep). laid film (w .pen .drawn) (q .film)) from)
             (s .records ∙ ap (λ (q : Sweep). w .pen .drawn + length (q .film)) from)
-            ∙ sym (laid-append film (w .pen .drawn) (g .film) (marks n (w .begun) x (g .wires)));
-        room = omega (arith, s .room, few, d .room, j .records, marks-few n (w .begun) x (listed (c .wires)));
+            ∙ sym (laid-append film (w .pen .drawn) (g .film) (shown n (w .begun) x (g .wires)));
+        room = omega (arith, s .room, few, d .room, j .records, shown-few n (w .begun) x (listed (c .wires)));
       }
 
-pub begun-more : (f b : ℕ) → f ≡ 0 → b + 1 ≡ begun (kindIn f) b
-unfolding kindIn begun
-begun-more f b e = rw e (add-one b)
+  -- by the kind field: what pass and end ask, and what was done where no net begins
+  pub visit-goes-on-open : n .kind ≡ 1 → Open c (n .above) (pitch * i)
+  visit-goes-on-open e = goes-on-open c n (w .begun) (pitch * i) visit-joinable (kind-goes-on (n .kind) e)
 
-pub begun-same : (f b : ℕ) → (f ≡ 0 → ⊥) → b ≡ begun (kindIn f) b
-unfolding kindIn begun
-begun-same zero b h = absurd (h refl)
-begun-same (suc zero) b h = refl
-begun-same (suc (suc f)) b h = refl
+  pub visit-ends-open : n .kind ≡ 2 → Open c (n .above) (pitch * i)
+  visit-ends-open e = ends-open c n (w .begun) (pitch * i) visit-joinable (kind-ends (n .kind) e)
+
+  module _ (r : Pen) (after : List ℕ) where
+    pub visit-goes-on : n .kind ≡ 1 → Stubbed c (n .above) (pitch * i) middle r after → Visited w n i film (record { pen = r; begun = w .begun }) after
+    visit-goes-on e t =
+        visit-visited r after (w .begun) (begun-same (n .kind) (w .begun) (λ z. omega arith))
+        (joined-goes-on c n (w .begun) (pitch * i) visit-joinable middle r after (kind-goes-on (n .kind) e) t)
+
+    pub visit-ends : n .kind ≡ 2 → Ended c (n .above) (pitch * i) middle r after → Visited w n i film (record { pen = r; begun = w .begun }) after
+    visit-ends e t =
+        visit-visited r after (w .begun) (begun-same (n .kind) (w .begun) (λ z. omega arith))
+        (joined-ends c n (w .begun) (pitch * i) visit-joinable middle r after (kind-ends (n .kind) e) t)
+
+  pub visit-blank : (r : Pen) → (n .kind ≡ 0 → ⊥) → (n .kind ≡ 1 → ⊥) → (n .kind ≡ 2 → ⊥) → Skipped c (pitch * i) r
+      → Visited w n i film (record { pen = r; begun = w .begun }) middle
+  visit-blank r e f g t =
+      visit-visited r middle (w .begun) (begun-same (n .kind) (w .begun) e)
+      (joined-blank c n (w .begun) (pitch * i) visit-joinable middle r middle (kind-blank (n .kind) e f g) t refl)
 
 -- ---- what a legal entry allows
 
 record Allowed (ku kl b f a : ℕ) (es : List Entry) : Type 0 where
-  fits : Fits ku kl (suc a) (counted (kindIn f) b)
+  fits : FitsAt (kindIn f) ku kl (suc a) (counted (kindIn f) b)
   rest : Legal ku kl (left (kindIn f) b) es
 
 allowed : {ku kl b f a : ℕ} {es : List Entry} → Legal ku kl b (entry f a ∷ es) → Allowed ku kl b f a es
-allowed (then n h l) = record { fits = h; rest = l }
+allowed (then h l) = record { fits = h; rest = l }
 
 legal-above : {ku kl b : ℕ} {e : Entry} {es : List Entry} → Legal ku kl b (e ∷ es) → aboveAt e ≤ ku
 unfolding aboveAt
-legal-above (then n h l) = omega (arith, h .upper)
+legal-above (then h l) = omega (arith, h .upper)
 
 pub above-of : {e : Entry} {f a m : ℕ} → e ≡ entry f a → aboveAt e ≤ m → a ≤ m
 unfolding aboveAt
@@ -123,13 +150,13 @@ pub node-of : {s : List ℕ} {i ku ku′ : ℕ} {n : Node} → ku ≡ ku′ → 
 node-of e t = rw (← e) t
 
 -- the records from an entry on
-draw-cons : (ku i b : ℕ) (ws : List Wire) (w : Walk) (n : Node) (es : List Entry) → listed (w .pen .wires) ≡ ws → w .begun ≡ b → n .upper ≡ upper ku (suc (n .above))
+draw-cons : (ku i b : ℕ) (ws : List Wire) (w : Walk) (n : Node) (es : List Entry) → listed (w .pen .wires) ≡ ws → w .begun ≡ b → n .upper ≡ upperAt (kindOf n) ku (n .above)
     → draw pitch ku i b ws (entry (n .kind) (n .above) ∷ es)
     ≡ strokes w n i ++ draw pitch ku (suc i) (begun (kindOf n) (w .begun)) (going n (w .begun) (pitch * i) (crossing w n i .wires)) es
 unfolding draw
 draw-cons ku i b ws w n es p q u =
     rw (← p, ← q, ← u)
-    (sym (append-assoc (crossing w n i .film) (marks n (w .begun) (pitch * i) (crossing w n i .wires))
+    (sym (append-assoc (crossing w n i .film) (shown n (w .begun) (pitch * i) (crossing w n i .wires))
     (draw pitch ku (suc i) (begun (kindOf n) (w .begun)) (going n (w .begun) (pitch * i) (crossing w n i .wires)) es)))
 
 -- ---- the walk
@@ -177,12 +204,12 @@ module _ (s film₀ : List ℕ) where
       unfolding begun left counted
       walk-due =
           let f = here .fits in
-          let u : n .upper ≡ min (suc (n .above)) (upperOf s) = t .upper ∙ upper-min (upperOf s) (n .above) in
+          let u = both-streets (kindOf n) f in
           record {
             sound = m .sound;
             stands = f .high;
             few = omega (arith, f .sum, d .upper, d .lower);
-            fitting = record { upper = omega (arith, d .upper); deep = omega (arith, f .sum, f .lower, f .upper, d .lower) };
+            fitting = record { upper = omega (arith, t .upper, u .0, d .upper); deep = omega (arith, t .upper, u .1, d .lower) };
             small = go (kindOf n) (legal-few (here .rest));
             near = omega (arith, d .high);
             column = m .column;
@@ -193,6 +220,7 @@ module _ (s film₀ : List ℕ) where
           go B l = omega (arith, length-drop (suc i) (entriesOf s), length-entriesOf s, m .few, d .high)
           go M l = omega (arith, length-drop (suc i) (entriesOf s), length-entriesOf s, m .few, d .high)
           go E l = omega (arith, length-drop (suc i) (entriesOf s), length-entriesOf s, m .few, d .high)
+          go N l = omega (arith, length-drop (suc i) (entriesOf s), length-entriesOf s, m .few, d .high)
 
       module _ (r : Walk) (after : List ℕ) (v : Visited w n i film r after) where
         -- what is drawn from node i on is drawn for it, and then from the next on
@@ -203,7 +231,7 @@ module _ (s film₀ : List ℕ) where
             ∙ ap₂ (λ (b : ℕ) (ws : List Wire). strokes w n i ++ draw pitch (upperOf s) (suc i) b ws (drop (suc i) (entriesOf s))) (sym (v .nets)) (sym (v .list))
 
         pub walk-step : Walking (i + 1) r after
-        unfolding begun left counted
+        unfolding begun left last counted
         walk-step =
             let p = ap (λ (l : List Rec). length l) parts in
             rw (add-one i)
@@ -222,10 +250,11 @@ module _ (s film₀ : List ℕ) where
                   ∙ m .bytes;
             })
           where
-            go : (k : Kind) → suc (n .above) ≤ counted k (w .pen .wires .count) → 2 * begun k (w .begun) ≤ suc i + left k (w .pen .wires .count)
+            go : (k : Kind) → suc (n .above) ≤ last k (counted k (w .pen .wires .count)) → 2 * begun k (w .begun) ≤ suc i + left k (w .pen .wires .count)
             go B l = omega (arith, m .few)
             go M l = omega (arith, m .few)
             go E l = omega (arith, m .few)
+            go N l = omega (arith, m .few)
 
   pub walk-kept : (i : ℕ) (w : Walk) (film : List ℕ) → Walking i w film → length film ≡ length film₀
   walk-kept i w film m =

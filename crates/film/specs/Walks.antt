@@ -4,10 +4,10 @@ use mathlib.Core.List.{List, _++_}
 use Prim.Native.Nat.{ℕ, suc, _+_, _-_, _*_, _≤_, _<_}
 use lib.ListN.{length}
 use Rattle.rules.specs.declared.Drawing.{Drawing}
-use Rattle.rules.specs.Street.{counted}
+use Rattle.rules.specs.Street.{last, counted}
 use Rattle.rules.specs.Sheet.{entry, entryAt, begun}
 use Rattle.rules.specs.Judgement.{left}
-use Rattle.rules.specs.Film.{upper, Rec, Sweep, gap, records}
+use Rattle.rules.specs.Film.{upperAt, Rec, Sweep, gap, records}
 use Rattle.rules.specs.Answers.{drawing, FilmAfter}
 use Rattle.street.specs.Order.{capacity}
 use Rattle.film.specs.declared.moves.Node.{Node}
@@ -15,7 +15,7 @@ use Rattle.film.specs.declared.drawer.Walk.{Walk}
 use Rattle.film.specs.Stamps.{each, laid}
 use Rattle.film.specs.Wires.{listed, Sound}
 use Rattle.film.specs.Moves.{aim, Fitting}
-use Rattle.film.specs.Nodes.{kindOf, marks, going}
+use Rattle.film.specs.Nodes.{kindOf, shown, going}
 
 -- the columns from one node to the next, which the code calls PITCH
 abbrev pub pitch : ℕ
@@ -24,12 +24,12 @@ pitch = 16
 -- n is node i, from 0, under Ku upper tracks
 pub record NodeOf (s : List ℕ) (i ku : ℕ) (n : Node) : Type 0 where
   pub is : entryAt s i ≡ entry (n .kind) (n .above)
-  pub upper : n .upper ≡ upper ku (suc (n .above))
+  pub upper : n .upper ≡ upperAt (kindOf n) ku (n .above)
 
--- node n comes next as node i: its wire has a place, a level and a number, and its records have room
+-- node n comes next as node i: it has a place, its wire a level and a number, and its records have room
 pub record Due (w : Walk) (n : Node) (i : ℕ) : Type 0 where
   pub sound : Sound (w .pen .wires)
-  pub stands : n .above < counted (kindOf n) (w .pen .wires .count)
+  pub stands : n .above < last (kindOf n) (counted (kindOf n) (w .pen .wires .count))
   pub few : counted (kindOf n) (w .pen .wires .count) ≤ capacity
   pub fitting : Fitting n (w .pen .wires .count)
   pub small : begun (kindOf n) (w .begun) ≤ 256
@@ -42,7 +42,7 @@ abbrev pub crossing : Walk → Node → ℕ → Sweep
 crossing w n i = gap (aim n) (pitch * (i - 1)) (listed (w .pen .wires))
 
 abbrev pub strokes : Walk → Node → ℕ → List Rec
-strokes w n i = crossing w n i .film ++ marks n (w .begun) (pitch * i) (crossing w n i .wires)
+strokes w n i = crossing w n i .film ++ shown n (w .begun) (pitch * i) (crossing w n i .wires)
 
 -- node n was drawn as node i
 pub record Visited (w : Walk) (n : Node) (i : ℕ) (film : List ℕ) (r : Walk) (after : List ℕ) : Type 0 where

@@ -31,11 +31,11 @@ abbrev pub listed : Wires → List Wire
 listed w = take (w .count) (cells w)
 
 -- what stands past the end of a list of wires: nothing is drawn of it
-abbrev pub blank : Wire
-blank = wire 0 (pos 0) 0
+abbrev pub missing : Wire
+missing = wire 0 (pos 0) 0
 
 abbrev pub wireAt : Wires → ℕ → Wire
-wireAt w k = getD (listed w) k blank
+wireAt w k = getD (listed w) k missing
 
 -- a wire that a record can show: on a level from −3 to 3, with a net and a start that their fields hold
 pub record Fine (w : Wire) : Type 0 where

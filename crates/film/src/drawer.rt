@@ -1,9 +1,12 @@
 // From a sheet to a film: the records are counted first, and drawn once they are known to fit.
-use crate::levels::upper_wires;
+use crate::levels::upper_at;
 use crate::moves::Node;
 use crate::moves::Pen;
 use crate::moves::cross;
-use crate::nodes::touch;
+use crate::nodes::begin;
+use crate::nodes::end;
+use crate::nodes::pass;
+use crate::nodes::skip;
 use crate::wires::Wires;
 use bits::get_bits;
 use rules::Drawing;
@@ -94,15 +97,24 @@ fn visit(film: &mut [u8], walk: Walk, node: Node, i: usize) -> Walk
     let kind = node.kind;
     let pen = walk.pen;
     let begun = walk.begun;
+    let above = node.above;
     let crossed = cross(film, pen, node);
-    let touched = touch(film, crossed, node, begun, (PITCH * i) as u16);
+    let x = (PITCH * i) as u16;
     match kind {
         0 => Walk {
-            pen: touched,
+            pen: begin(film, crossed, node, begun, x),
             begun: begun + 1,
         },
+        1 => Walk {
+            pen: pass(film, crossed, above, x),
+            begun,
+        },
+        2 => Walk {
+            pen: end(film, crossed, above, x),
+            begun,
+        },
         _ => Walk {
-            pen: touched,
+            pen: skip(crossed, x),
             begun,
         },
     }
@@ -114,10 +126,11 @@ fn node_at(s: &[u8], i: usize, ku: usize) -> Node
     ensures { λ r. ⌜ NodeOf (now (s .entry)) i ku r ⌝ }
 {
     let fields = get_bits(s, 16 + 6 * i, 6);
+    let kind = fields / 16;
     let above = (fields % 16) as usize;
     Node {
-        kind: fields / 16,
-        upper: upper_wires(ku, above),
+        kind,
+        upper: upper_at(kind, ku, above),
         above,
     }
 }

@@ -2,11 +2,23 @@
 ghost use mathlib.Core.Path.{_≡_};
 ghost use Prim.Native.Nat.{suc, _+_, _≤_};
 ghost use lib.Dec.{ltb};
-ghost use Rattle.rules.specs.Film.{upper, heightAt};
+ghost use Rattle.rules.specs.Sheet.{kindIn};
+ghost use Rattle.rules.specs.Film.{upper, upperAt, heightAt};
 ghost use Rattle.film.specs.Heights.{high, Level, Reached};
 
-// u, the number of wires in the upper street at a node with so many wires above its own: the smaller of p and Ku.
-pub fn upper_wires(ku: usize, above: usize) -> usize
+// u, the number of wires in the upper street, at a node by its kind field: at a blank all wires above it.
+pub fn upper_at(kind: u16, ku: usize, above: usize) -> usize
+    requires { ⌜ (ku ≤ 3) × (above ≤ 3) ⌝ }
+    ensures { λ r. ⌜ r ≡ upperAt (kindIn kind) ku above ⌝ }
+{
+    if 2 < kind {
+        return above;
+    }
+    upper_wires(ku, above)
+}
+
+// u at a node with so many wires above its own: the smaller of p and Ku.
+fn upper_wires(ku: usize, above: usize) -> usize
     requires { ⌜ (ku ≤ 3) × (above ≤ 3) ⌝ }
     ensures { λ r. ⌜ r ≡ upper ku (suc above) ⌝ }
 {

@@ -18,7 +18,7 @@ pub struct Pen {
     pub drawn: usize,
 }
 
-// A node of a sheet: its kind field, the number of wires in the upper street, and of those above its own.
+// A node of a sheet: its kind field, the number of wires in the upper street, and of those above it.
 pub struct Node {
     pub kind: u16,
     pub upper: usize,

@@ -1,28 +1,16 @@
-// A node: at a B its wire is put in, a stub joins it to its pin, and at an E its last run ends and it is taken out.
+// A node: at a B its wire is put in, a stub joins it to its pin, and at an E its last run ends and it is taken out; at a blank nothing is drawn.
 use crate::levels::level_at;
 use crate::moves::Node;
 use crate::moves::Pen;
 use crate::records::put_across;
 use crate::records::put_wall;
-ghost use Rattle.film.specs.Nodes.{Open, Joinable, Joined, Stubbed, Ended};
 ghost use mathlib.Core.Path.{_≡_};
+ghost use Prim.Native.Nat.{_<_};
+ghost use Rattle.film.specs.Nodes.{Open, Joinable, Joined, Stubbed, Ended, Skipped};
+ghost use Rattle.film.specs.Stamps.{columns};
 
-// Draws a node at column x, where so many nets were begun before it.
-pub fn touch(film: &mut [u8], pen: Pen, node: Node, begun: usize, x: u16) -> Pen
-    requires { ⌜ Joinable pen node begun x ⌝ }
-    ensures { λ r. ⌜ Joined pen node begun x (now (film .entry)) r (now (film .exit)) ⌝ }
-{
-    let kind = node.kind;
-    let above = node.above;
-    match kind {
-        0 => begin(film, pen, node, begun, x),
-        1 => pass(film, pen, above, x),
-        _ => end(film, pen, above, x),
-    }
-}
-
-// Puts the wire of a new net in, and draws its stub.
-fn begin(film: &mut [u8], pen: Pen, node: Node, begun: usize, x: u16) -> Pen
+// Puts the wire of a new net in at column x, where so many nets were begun before it, and draws its stub.
+pub fn begin(film: &mut [u8], pen: Pen, node: Node, begun: usize, x: u16) -> Pen
     requires { ⌜ Joinable pen node begun x × (node .kind ≡ 0) ⌝ }
     ensures { λ r. ⌜ Joined pen node begun x (now (film .entry)) r (now (film .exit)) ⌝ }
 {
@@ -42,7 +30,7 @@ fn begin(film: &mut [u8], pen: Pen, node: Node, begun: usize, x: u16) -> Pen
 }
 
 // Draws the stub of the wire with so many above it.
-fn pass(film: &mut [u8], pen: Pen, above: usize, x: u16) -> Pen
+pub fn pass(film: &mut [u8], pen: Pen, above: usize, x: u16) -> Pen
     requires { ⌜ Open pen above x ⌝ }
     ensures { λ r. ⌜ Stubbed pen above x (now (film .entry)) r (now (film .exit)) ⌝ }
 {
@@ -59,7 +47,7 @@ fn pass(film: &mut [u8], pen: Pen, above: usize, x: u16) -> Pen
 }
 
 // Draws the stub and the last run of the wire with so many above it, and takes it out.
-fn end(film: &mut [u8], pen: Pen, above: usize, x: u16) -> Pen
+pub fn end(film: &mut [u8], pen: Pen, above: usize, x: u16) -> Pen
     requires { ⌜ Open pen above x ⌝ }
     ensures { λ r. ⌜ Ended pen above x (now (film .entry)) r (now (film .exit)) ⌝ }
 {
@@ -76,5 +64,20 @@ fn end(film: &mut [u8], pen: Pen, above: usize, x: u16) -> Pen
         wires: fewer,
         column,
         drawn: drawn + 1,
+    }
+}
+
+// Goes past a blank, of which nothing is drawn.
+pub fn skip(pen: Pen, x: u16) -> Pen
+    requires { ⌜ x < columns ⌝ }
+    ensures { λ r. ⌜ Skipped pen x r ⌝ }
+{
+    let wires = pen.wires;
+    let column = x + 1;
+    let drawn = pen.drawn;
+    Pen {
+        wires,
+        column,
+        drawn,
     }
 }

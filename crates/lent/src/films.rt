@@ -15,8 +15,8 @@ pub fn is_drawn(film: &[u8], wanted: &[u8]) -> bool {
     is_kept(film, n)
 }
 
-// The most records that a film here has.
-const MOST: usize = 1638;
+// The most records that a film has: 14 for each of 512 nodes.
+const MOST: usize = 7168;
 
 // Whether the first k records of one film are those of another, each once.
 fn has_records(film: &[u8], wanted: &[u8], k: usize) -> bool {
@@ -36,7 +36,7 @@ fn has_records(film: &[u8], wanted: &[u8], k: usize) -> bool {
     true
 }
 
-// How often the record that starts at `from` stands among the first k of a film; 0 where k is more than a film here has.
+// How often the record that starts at `from` stands among the first k of a film; 0 where k is more than a film has.
 fn copies(film: &[u8], k: usize, wanted: &[u8], from: usize) -> u64 {
     if k > MOST {
         return 0;

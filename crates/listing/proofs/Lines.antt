@@ -9,7 +9,7 @@ use Rattle.rules.specs.Street.{counted}
 use Rattle.rules.specs.Sheet.{kindIn, size, Entry, entry, countOf, entryAt, entriesOf}
 use Rattle.bits.specs.Access.{Inside, Got}
 use Rattle.sheet.proofs.Scans.{entries-from, entries-end}
-use Rattle.listing.specs.Text.{decimal, closed, line, letter, nodeLine, openAfter, nodeLines}
+use Rattle.listing.specs.Text.{decimal, closed, line, letter, placeIn, nodeLine, openAfter, nodeLines}
 use Rattle.listing.specs.Wrote.{Wrote, Readable}
 use Rattle.listing.proofs.Writing.{wrote-none, wrote-more}
 use Rattle.listing.proofs.Decimals.{decimal-short}
@@ -34,16 +34,16 @@ unfolding line
 wrote-line a b c d w₁ w₂ w₃ w₄ = wrote-more w₁ (wrote-more w₂ (wrote-more w₃ w₄))
 
 -- the fields of a node's line
-pub wrote-node : (node k a nets l b : ℕ) → l ≡ letter (kindIn k) → b ≡ counted (kindIn k) nets → {t₀ t₁ t₂ t₃ t₄ : List ℕ} {p₀ p₁ p₂ p₃ p₄ : ℕ}
-    → Wrote t₀ p₀ (closed (decimal node) 32) t₁ p₁ → Wrote t₁ p₁ (closed (l ∷ []) 32) t₂ p₂ → Wrote t₂ p₂ (closed (decimal (a + 1)) 32) t₃ p₃
+pub wrote-node : (node k a nets l p b : ℕ) → l ≡ letter (kindIn k) → p ≡ placeIn (kindIn k) a → b ≡ counted (kindIn k) nets → {t₀ t₁ t₂ t₃ t₄ : List ℕ} {p₀ p₁ p₂ p₃ p₄ : ℕ}
+    → Wrote t₀ p₀ (closed (decimal node) 32) t₁ p₁ → Wrote t₁ p₁ (closed (l ∷ []) 32) t₂ p₂ → Wrote t₂ p₂ (closed (decimal p) 32) t₃ p₃
     → Wrote t₃ p₃ (closed (decimal b) 10) t₄ p₄ → Wrote t₀ p₀ (nodeLine node nets (entry k a)) t₄ p₄
 unfolding nodeLine
-wrote-node node k a nets l b el eb {t₀} {t₁} {t₂} {t₃} {t₄} {p₀} {p₁} {p₂} {p₃} {p₄} w₁ w₂ w₃ w₄ =
-    let e : line (decimal node) (l ∷ []) (decimal (a + 1)) (decimal b)
-    ≡ line (decimal node) (letter (kindIn k) ∷ []) (decimal (suc a)) (decimal (counted (kindIn k) nets)) =
-    ap₂ (λ (x y : ℕ). line (decimal node) (x ∷ []) (decimal (a + 1)) (decimal y)) el eb
-    ∙ ap (λ (p : ℕ). line (decimal node) (letter (kindIn k) ∷ []) (decimal p) (decimal (counted (kindIn k) nets))) (add-one a) in
-    rw e at (wrote-line (decimal node) (l ∷ []) (decimal (a + 1)) (decimal b) w₁ w₂ w₃ w₄)
+wrote-node node k a nets l p b el ep eb {t₀} {t₁} {t₂} {t₃} {t₄} {p₀} {p₁} {p₂} {p₃} {p₄} w₁ w₂ w₃ w₄ =
+    let e : line (decimal node) (l ∷ []) (decimal p) (decimal b)
+    ≡ line (decimal node) (letter (kindIn k) ∷ []) (decimal (placeIn (kindIn k) a)) (decimal (counted (kindIn k) nets)) =
+    ap₂ (λ (x y : ℕ). line (decimal node) (x ∷ []) (decimal p) (decimal y)) el eb
+    ∙ ap (λ (q : ℕ). line (decimal node) (letter (kindIn k) ∷ []) (decimal q) (decimal (counted (kindIn k) nets))) ep in
+    rw e at (wrote-line (decimal node) (l ∷ []) (decimal p) (decimal b) w₁ w₂ w₃ w₄)
 
 -- a node's fields lie in the sheet
 pub kind-inside : (s : List ℕ) (n i : ℕ) → Readable s n → i < n → Inside s (16 + 6 * i) 2

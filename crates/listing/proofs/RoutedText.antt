@@ -12,7 +12,6 @@ use Rattle.rules.specs.declared.Routing.the-variants.{Sheet, RowLength, Tracks,
 use Rattle.rules.specs.Basic.{keep, orElse, settle}
 use Rattle.rules.specs.Row.{nodes}
 use Rattle.rules.specs.Street.{first, IsFirst}
-use Rattle.rules.specs.Bits.{Below}
 use Rattle.rules.specs.Sheet.{takes, size, sheet, Entry, entries, upperOf, lowerOf, countOf, entriesOf}
 use Rattle.rules.specs.Judgement.{wrongCount}
 use Rattle.rules.specs.Answers.{firstLone, refusal, outcome, routing, firstSheet, written, sheetAfter}
@@ -75,11 +74,11 @@ module _ (row : List ℕ) (ku kl : ℕ) (work out : List ℕ) where
       go false false false false false e = refl
 
   -- the fields of the first placing's sheet
-  first-laid : Below 256 row → Checked row ku kl work out → (ps : List ℕ) → IsFirst ku kl (nodes row) ps → LaidOut ku kl (entries (nodes row) ps) (sheet ku kl (nodes row) ps)
-  first-laid b c ps f =
+  first-laid : Checked row ku kl work out → (ps : List ℕ) → IsFirst ku kl (nodes row) ps → LaidOut ku kl (entries (nodes row) ps) (sheet ku kl (nodes row) ps)
+  first-laid c ps f =
       let h = checked-fit row ku kl work out c in
       placed-laid row ku kl ps
-      (record { bytes-alone = b; least = h .least; most = h .most; whole = h .whole; upper = h .upper; lower = h .lower; placing = f .placing })
+      (record { least = h .least; most = h .most; whole = h .whole; upper = h .upper; lower = h .lower; placing = f .placing })
 
   -- the sheet that is given has n nodes, its size, and the text of the first placing
   record Given (n : ℕ) : Type 0 where
@@ -90,15 +89,15 @@ module _ (row : List ℕ) (ku kl : ℕ) (work out : List ℕ) where
     first : IsFirst ku kl (nodes row) ps
     text : listed (Sheet n) (firstSheet row ku kl) ≡ headLine n ku kl ++ nodeLines 1 0 (entries (nodes row) ps)
 
-  sheet-given : Below 256 row → (n : ℕ) → routing row ku kl work out ≡ Sheet n → Given n
+  sheet-given : (n : ℕ) → routing row ku kl work out ≡ Sheet n → Given n
   unfolding listed
-  sheet-given b n e = go (answered row ku kl work out (sheet-checked n e))
+  sheet-given n e = go (answered row ku kl work out (sheet-checked n e))
     where
       go : Answered row ku kl work out (sheet-checked n e) → Given n
       go (stuck i x s a) = let z : _≡_ {A = ℕ} 0 1 = cc in absurd (omega arith)
       go (placed ps f a s) =
           let is : length row ≡ n = cc in
-          let l = first-laid b (sheet-checked n e) ps f in
+          let l = first-laid (sheet-checked n e) ps f in
           let k : length (entries (nodes row) ps) ≡ n = length-entries ku kl (nodes row) [] ps [] (f .placing) ∙ length-nodes row ∙ is in
           record {
             few = omega (arith, checked-fit row ku kl work out (sheet-checked n e) .most);
@@ -112,7 +111,7 @@ module _ (row : List ℕ) (ku kl : ℕ) (work out : List ℕ) where
                 ∙ ap (λ (es : List Entry). headLine n ku kl ++ nodeLines 1 0 es) (l .nodes);
           }
 
-  module _ (b : Below 256 row) (r : Routing) (work′ out′ : List ℕ) (c : Routed row ku kl work out r work′ out′) where
+  module _ (r : Routing) (work′ out′ : List ℕ) (c : Routed row ku kl work out r work′ out′) where
     abbrev S : List ℕ
     S = firstSheet row ku kl
 
@@ -122,11 +121,11 @@ module _ (row : List ℕ) (ku kl : ℕ) (work out : List ℕ) where
 
     long : (n : ℕ) → r ≡ Sheet n → 2 ≤ length S
     unfolding size
-    long n e = omega (arith, sheet-given b n (sym (c .answer) ∙ e) .sized)
+    long n e = omega (arith, sheet-given n (sym (c .answer) ∙ e) .sized)
 
     routed-listable : Listable r out′
     routed-listable n e =
-        let g = sheet-given b n (sym (c .answer) ∙ e) in
+        let g = sheet-given n (sym (c .answer) ∙ e) in
         let t : List ℕ = drop (length S) out in
         record {
           few = g .few;
@@ -137,7 +136,7 @@ module _ (row : List ℕ) (ku kl : ℕ) (work out : List ℕ) where
     same-text : (q : Routing) → r ≡ q → listed q out′ ≡ listed q S
     unfolding listed
     same-text (Sheet n) e =
-        let g = sheet-given b n (sym (c .answer) ∙ e) in
+        let g = sheet-given n (sym (c .answer) ∙ e) in
         ap (listed (Sheet n)) (behind n e) ∙ front-listed S (drop (length S) out) (omega (arith, g .sized, ap size (g .count))) n
     same-text RowLength e = refl
     same-text Tracks e = refl
@@ -161,18 +160,18 @@ module _ (row : List ℕ) (ku kl : ℕ) (work out : List ℕ) where
 pub text-listing : {new new′ text text′ : List ℕ} {end : ℕ} → new ≡ new′ → Listing new text text′ end → Listing new′ text text′ end
 text-listing e l = rw e at l
 
-module _ {row : List ℕ} {ku kl : ℕ} {work out : List ℕ} {r : Routing} {work′ out′ : List ℕ} (b : Below 256 row) (c : Routed row ku kl work out r work′ out′) where
+module _ {row : List ℕ} {ku kl : ℕ} {work out : List ℕ} {r : Routing} {work′ out′ : List ℕ} (c : Routed row ku kl work out r work′ out′) where
   pub listable : Listable r out′
-  listable = routed-listable row ku kl work out b r work′ out′ c
+  listable = routed-listable row ku kl work out r work′ out′ c
 
   pub routed-listing : length work ≡ 46080 → length out ≡ 386 → {text text′ : List ℕ} {end : ℕ} → Listing (listed r out′) text text′ end
       → Listing (rowText row ku kl) text text′ end
-  routed-listing w o = text-listing (routed-text row ku kl work out b r work′ out′ c w o)
+  routed-listing w o = text-listing (routed-text row ku kl work out r work′ out′ c w o)
 
 -- an accepted row is listed with the kinds and positions of its first placing
-pub accepted-text : (row : List ℕ) (ku kl n : ℕ) → Below 256 row → answer row ku kl ≡ Sheet n
+pub accepted-text : (row : List ℕ) (ku kl n : ℕ) → answer row ku kl ≡ Sheet n
     → (ps : List ℕ) × IsFirst ku kl (nodes row) ps × (rowText row ku kl ≡ headLine n ku kl ++ nodeLines 1 0 (entries (nodes row) ps))
 unfolding answer rowText
-accepted-text row ku kl n b e =
-    let g = sheet-given row ku kl (replicate (90 * 512) 0) (replicate (size 512) 0) b n e in
+accepted-text row ku kl n e =
+    let g = sheet-given row ku kl (replicate (90 * 512) 0) (replicate (size 512) 0) n e in
     (g .ps, g .first, ap (λ (q : Routing). listed q (firstSheet row ku kl)) e ∙ g .text)

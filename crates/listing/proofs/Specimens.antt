@@ -1,4 +1,4 @@
--- Document 01's example of `listrow` and two refusals hold for the definitions: antt computes each text.
+-- Document 01's example of `listrow`, one with blanks and two refusals hold for the definitions: antt computes each text.
 use mathlib.Core.Bool.{Bool, true, false, _&&_}
 use mathlib.Core.List.{List, [], _∷_}
 use Prim.Native.Nat.{ℕ}
@@ -10,7 +10,7 @@ use Rattle.rules.specs.Bits.{digits, val, pack}
 use Rattle.rules.specs.Sheet.{kindIn, upperOf, lowerOf, countOf, entryAt, entriesOf}
 use Rattle.rules.specs.Judgement.{left}
 use Rattle.rules.specs.Answers.{routeSaid}
-use Rattle.listing.specs.Text.{leading, decimal, closed, line, sheetWord, refusedWord, atWord, letter, headLine, nodeLine, openAfter, nodeLines, refusedLine, listed}
+use Rattle.listing.specs.Text.{leading, decimal, closed, line, sheetWord, refusedWord, atWord, letter, placeIn, headLine, nodeLine, openAfter, nodeLines, refusedLine, listed}
 
 unfoldable pub same : List ℕ → List ℕ → Bool
 same [] [] = true
@@ -32,6 +32,20 @@ exampleText =
     ∷ 53 ∷ 32 ∷ 69 ∷ 32 ∷ 49 ∷ 32 ∷ 50 ∷ 10
     ∷ 54 ∷ 32 ∷ 69 ∷ 32 ∷ 49 ∷ 32 ∷ 49 ∷ 10 ∷ []
 
+-- the sheet of ab_ab_ under 1/1, where _ is a blank, and its text
+unfoldable pub blanks : List ℕ
+blanks = 0x14 ∷ 0x06 ∷ 0x00 ∷ 0x0c ∷ 0x61 ∷ 0x83 ∷ 0x00 ∷ []
+
+unfoldable pub blanksText : List ℕ
+blanksText =
+    115 ∷ 104 ∷ 101 ∷ 101 ∷ 116 ∷ 32 ∷ 54 ∷ 32 ∷ 49 ∷ 32 ∷ 49 ∷ 10
+    ∷ 49 ∷ 32 ∷ 66 ∷ 32 ∷ 49 ∷ 32 ∷ 49 ∷ 10
+    ∷ 50 ∷ 32 ∷ 66 ∷ 32 ∷ 49 ∷ 32 ∷ 50 ∷ 10
+    ∷ 51 ∷ 32 ∷ 78 ∷ 32 ∷ 49 ∷ 32 ∷ 50 ∷ 10
+    ∷ 52 ∷ 32 ∷ 69 ∷ 32 ∷ 50 ∷ 32 ∷ 50 ∷ 10
+    ∷ 53 ∷ 32 ∷ 69 ∷ 32 ∷ 49 ∷ 32 ∷ 49 ∷ 10
+    ∷ 54 ∷ 32 ∷ 78 ∷ 32 ∷ 48 ∷ 32 ∷ 48 ∷ 10 ∷ []
+
 -- `refused 1 at 0` and `refused 6 at 105`
 unfoldable pub rowLengthText : List ℕ
 rowLengthText = 114 ∷ 101 ∷ 102 ∷ 117 ∷ 115 ∷ 101 ∷ 100 ∷ 32 ∷ 49 ∷ 32 ∷ 97 ∷ 116 ∷ 32 ∷ 48 ∷ 10 ∷ []
@@ -40,6 +54,6 @@ unfoldable pub stuckText : List ℕ
 stuckText = 114 ∷ 101 ∷ 102 ∷ 117 ∷ 115 ∷ 101 ∷ 100 ∷ 32 ∷ 54 ∷ 32 ∷ 97 ∷ 116 ∷ 32 ∷ 49 ∷ 48 ∷ 53 ∷ 10 ∷ []
 
 pub specimens-hold : T (same (listed (Routing.Sheet 6) example) exampleText
-    && (same (listed Routing.RowLength []) rowLengthText && same (listed (Routing.Stuck 105) []) stuckText))
-unfolding same example exampleText rowLengthText stuckText leading decimal closed line sheetWord refusedWord atWord letter headLine nodeLine openAfter nodeLines refusedLine listed pick tabulate counted digits val pack kindIn upperOf lowerOf countOf entryAt entriesOf left routeSaid
+    && (same (listed (Routing.Sheet 6) blanks) blanksText && same (listed Routing.RowLength []) rowLengthText && same (listed (Routing.Stuck 105) []) stuckText))
+unfolding same example exampleText blanks blanksText rowLengthText stuckText leading decimal closed line sheetWord refusedWord atWord letter placeIn headLine nodeLine openAfter nodeLines refusedLine listed pick tabulate counted digits val pack kindIn upperOf lowerOf countOf entryAt entriesOf left routeSaid
 specimens-hold = tt

@@ -1,11 +1,11 @@
--- Document 01, 'Specimens', on `listrow`: the text of the router's answer on an input, as bytes of ASCII.
+-- Document 01, 'Specimens', on `listrow`, with request 1's blanks: the text of the router's answer on an input, as bytes of ASCII.
 use mathlib.Core.List.{List, [], _∷_, _++_}
 use Prim.Native.Nat.{ℕ, zero, suc, _+_, _*_, _/_, _%_}
 use lib.ListN.{replicate}
 use lib.Dec.{eqb}
 use Rattle.rules.specs.declared.Routing.{Routing}
 use Rattle.rules.specs.Basic.{pick}
-use Rattle.rules.specs.Row.{Kind, B, M, E}
+use Rattle.rules.specs.Row.{Kind, B, M, E, N}
 use Rattle.rules.specs.Street.{counted}
 use Rattle.rules.specs.Sheet.{Entry, entry, kindIn, size, upperOf, lowerOf, entriesOf}
 use Rattle.rules.specs.Judgement.{left}
@@ -38,19 +38,27 @@ refusedWord = 114 ∷ 101 ∷ 102 ∷ 117 ∷ 115 ∷ 101 ∷ 100 ∷ []
 unfoldable pub atWord : List ℕ
 atWord = 97 ∷ 116 ∷ []
 
--- the kind letters B, M and E
+-- the kind letters B, M, E and N
 unfoldable pub letter : Kind → ℕ
 letter B = 66
 letter M = 77
 letter E = 69
+letter N = 78
+
+-- p of a node with a wires above; at a blank s, which is a
+unfoldable pub placeIn : Kind → ℕ → ℕ
+placeIn B a = suc a
+placeIn M a = suc a
+placeIn E a = suc a
+placeIn N a = a
 
 -- `sheet`, n, Ku, Kl
 unfoldable pub headLine : (n ku kl : ℕ) → List ℕ
 headLine n ku kl = line sheetWord (decimal n) (decimal ku) (decimal kl)
 
--- a node, from 1: its number, its kind letter, p, and the open nets with its own, where b were open before it
+-- a node, from 1: its number, its kind letter, p or s, and the open nets with its own if it has one, where b were open before it
 unfoldable pub nodeLine : (i b : ℕ) → Entry → List ℕ
-nodeLine i b (entry f a) = line (decimal i) (letter (kindIn f) ∷ []) (decimal (suc a)) (decimal (counted (kindIn f) b))
+nodeLine i b (entry f a) = line (decimal i) (letter (kindIn f) ∷ []) (decimal (placeIn (kindIn f) a)) (decimal (counted (kindIn f) b))
 
 -- the nets open after a node, where b were before it
 unfoldable pub openAfter : ℕ → Entry → ℕ

@@ -9,7 +9,7 @@ ghost use Rattle.rules.specs.Street.{counted};
 ghost use Rattle.rules.specs.Sheet.{kindIn, entriesOf};
 ghost use Rattle.rules.specs.Sheet.{entry as Sheet·entry};
 ghost use Rattle.rules.specs.Judgement.{left};
-ghost use Rattle.listing.specs.Text.{letter, nodeLine, nodeLines};
+ghost use Rattle.listing.specs.Text.{letter, placeIn, nodeLine, nodeLines};
 ghost use Rattle.listing.specs.Wrote.{Wrote, Readable};
 
 // Puts a line for each of the sheet's n nodes at a place of the text, and returns the place behind them.
@@ -37,7 +37,7 @@ fn list_node(node: usize, kind: u16, above: u16, nets: usize, text: &mut [u8], a
     ensures { λ r. ⌜ Wrote (now (text .entry)) at (nodeLine node nets (Sheet·entry kind above)) (now (text .exit)) r × (r ≤ at + 16) ⌝ }
 {
     let word = [letter_of(kind)];
-    let p = above as usize + 1;
+    let p = place_of(kind, above);
     let a = put_number(text, at, node, b' ');
     let b = put_word(text, a, &word, b' ');
     let c = put_number(text, b, p, b' ');
@@ -51,11 +51,22 @@ fn letter_of(kind: u16) -> u8
     match kind {
         0 => b'B',
         1 => b'M',
-        _ => b'E',
+        2 => b'E',
+        _ => b'N',
     }
 }
 
-// The nets open at a node with its own, where so many are open before it.
+// p of a node with so many wires above; at a blank the wires above, s.
+fn place_of(kind: u16, above: u16) -> usize
+    ensures { λ r. ⌜ (r ≡ placeIn (kindIn kind) above) × (r ≤ above + 1) ⌝ }
+{
+    match kind {
+        0 | 1 | 2 => above as usize + 1,
+        _ => above as usize,
+    }
+}
+
+// The nets open at a node with its own if it has one, where so many are open before it.
 fn open_at(kind: u16, nets: usize) -> usize
     requires { ⌜ nets < 512 ⌝ }
     ensures { λ r. ⌜ (r ≡ counted (kindIn kind) nets) × (r ≤ nets + 1) ⌝ }
@@ -73,8 +84,8 @@ fn left_open(kind: u16, nets: usize) -> usize
 {
     match kind {
         0 => nets + 1,
-        1 => nets,
-        _ => one_less(nets),
+        2 => one_less(nets),
+        _ => nets,
     }
 }
 

@@ -60,15 +60,15 @@ module _ (ks xs cs : List ℕ) (ku kl : ℕ) where
         let r = way-ready ku kl (g .upper) (g .lower) i ss none (getD ks i 0) (getD xs i 0) (getD cs i 0) x (g .plan) inside told v in
         (record { few = r .few; touched = r .touched; upper = g .upper; lower = g .lower }, r .rank)
 
-    -- a node that is no B is not the first
-    pub stop-behind : (w : List ℕ) → Given ks xs cs w ku kl → 0 < getD ks i 0 → 0 < i
-    stop-behind w g h = go i inside told h
+    -- a node that is no B and no blank is not the first
+    pub stop-behind : (w : List ℕ) → Given ks xs cs w ku kl → 0 < getD ks i 0 → getD ks i 0 < 3 → 0 < i
+    stop-behind w g h n = go i inside told h n
       where
-        go : (i : ℕ) → i < length ss → getD ss i none ≡ stepOf (stopOf ks xs cs ku kl i) → 0 < getD ks i 0 → 0 < i
-        go zero m e h =
+        go : (i : ℕ) → i < length ss → getD ss i none ≡ stepOf (stopOf ks xs cs ku kl i) → 0 < getD ks i 0 → getD ks i 0 < 3 → 0 < i
+        go zero m e h n =
             absurd (first-begins (getD ks 0 0) (getD xs 0 0) (getD cs 0 0) (drop 1 ss)
-            (drop-cons ss 0 none m ∙ ap (λ s. s ∷ drop 1 ss) e) (g .plan) refl h)
-        go (suc i) m e h = omega arith
+            (drop-cons ss 0 none m ∙ ap (λ s. s ∷ drop 1 ss) e) (g .plan) refl h n)
+        go (suc i) m e h n = omega arith
 
   pub stop-sound : (i : ℕ) (w : List ℕ) → i < length ks → Given ks xs cs w ku kl → Passable ku kl ss → Sound (stopOf ks xs cs ku kl i)
   stop-sound i w l g p =

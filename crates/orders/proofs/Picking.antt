@@ -7,7 +7,7 @@ use mathlib.Core.Option.{some}
 use Prim.Native.Nat.{ℕ, suc, _+_, _≤_, _<_}
 use native.Mathlib.Numerals.{add-one}
 use native.Mathlib.Omega.{arith}
-use lib.ListN.{length, getD, take, drop, set, length-set, drop-of-length-le}
+use lib.ListN.{length, take, drop, set, length-set, drop-of-length-le}
 use lib.Seq.{take-suc-set, append-snoc, drop-cons}
 use lib.Dec.{eqb, ltb}
 use borrow.Author.Tests.{eqb-true, eqb-false, ltb-true, ltb-false}
@@ -20,7 +20,7 @@ use Rattle.steps.specs.Leading.{Led, Onward, Least}
 use Rattle.orders.specs.Passes.{Given, Kept, Passable, First}
 use Rattle.steps.proofs.Slots.{held-below}
 use Rattle.steps.proofs.Bits.{marked-held}
-use Rattle.steps.proofs.Hops.{hop-made, same-some}
+use Rattle.steps.proofs.Hops.{same-some}
 use Rattle.orders.proofs.Ways.{hops-nil, hops-start, hops-first, first-hops, way-start, passes-ahead, steps-length, steps-at}
 use Rattle.orders.proofs.Nodes.{way-on, way-back, ahead-back, stop-ready, rank-below}
 
@@ -85,9 +85,6 @@ module _ (ks xs cs : List ℕ) (ku kl : ℕ) (s : List ℕ) (given : Given ks xs
         let (y, h, a) = ahead-back ks xs cs ku kl i l r (k .ahead) in
         let w = way-on ks xs cs ku kl i l r y (k .way) h in
         record { next = y; within = rank-below ks xs cs ku kl (suc i) s y given w; leads = h; kept = kept .full i y inside w a }
-
-    pub known-kind : getD ks i 0 < 3
-    known-kind = hop-made ku kl (getD ks i 0) (getD xs i 0) (getD cs i 0) r (leads-on .leads .at) (leads-on .next) (leads-on .leads .lands) .kind
 
     -- a hop made each mark
     pub marks-led : (x : ℕ) → marked s i x ≡ true → Led (stopOf ks xs cs ku kl i) x

@@ -1,22 +1,24 @@
--- A touched net has one position: where a node leads on, it is there.
+-- A touched net has one position: where a node leads on, it is there. At a blank the least position has as few wires above as can be.
 use mathlib.Core.Path.{_≡_, refl, sym, ap, _∙_, subst}
 use mathlib.Core.Bool.{Bool, true, false, _&&_}
 use mathlib.Core.List.{List}
 use mathlib.Core.Option.{none, some}
-use Prim.Native.Nat.{ℕ, zero, suc, _≤_, _<_}
+use Prim.Native.Nat.{ℕ, zero, suc, _-_, _<_}
 use native.Mathlib.Omega.{arith}
 use lib.Dec.{eqb}
 use borrow.Author.Tests.{eqb-true, eqb-false, ne-eqb}
 use Rattle.rules.specs.Basic.{keep}
+use Rattle.rules.specs.Row.{N}
 use Rattle.rules.specs.Street.{fits}
+use Rattle.rules.proofs.Fits.{FitsAt}
+use Rattle.rules.proofs.Choices.{lowest-fits, lowest-least}
 use Rattle.steps.specs.declared.rank.Stop.{Stop}
 use Rattle.steps.specs.Plan.{step}
 use Rattle.steps.specs.Ranks.{fact, atOf, lessOf, hopOf}
-use Rattle.steps.specs.Sets.{marked, Loses}
+use Rattle.steps.specs.Sets.{marked}
 use Rattle.steps.specs.Stops.{hopAt, Sound}
 use Rattle.steps.specs.Leading.{Onward, Misses, Least}
-use Rattle.steps.proofs.Hops.{kept, hop-made, stop-lands, none-some}
-use Rattle.steps.proofs.Bits.{loses-map}
+use Rattle.steps.proofs.Hops.{kept, hop-rests, hop-rested, hop-still, stop-lands, none-some}
 
 -- the rank after a node of kind 1 or 2
 abbrev pub after : (kind a b r : ℕ) → ℕ
@@ -76,11 +78,18 @@ module _ (t : Stop) (s : List ℕ) (g r : ℕ) (sound : Sound t) (touched : 0 < 
           }
       at-place false d = absurd (elsewhere p (eqb-false p place d) (o .next) e (o .kept))
 
--- a field that is no kind leads nowhere
-pub nowhere : (t : Stop) (r q x : ℕ) → 3 ≤ t .kind → hopAt t r q ≡ some x → ⊥
-nowhere t r q x h e = omega (arith, hop-made (t .ku) (t .kl) (t .kind) (t .age) (t .count) r q x e .kind)
-
-pub nowhere-onward : (t : Stop) (s : List ℕ) (g : ℕ) (u : List ℕ) → 3 ≤ t .kind → Loses s g (λ x. ⊥) u → Loses s g (Onward t s (suc g)) u
-nowhere-onward t s g u h f =
-    loses-map s g (λ x. ⊥) (Onward t s (suc g)) u (λ x l e p. absurd p)
-    (λ x l e o. nowhere t x (o .leads .at) (o .next) h (o .leads .lands)) f
+-- at a blank, where the order stays, the least position is with as few wires above as the lower street allows
+pub rests : (t : Stop) (s : List ℕ) (g r : ℕ) → Sound t → 2 < t .kind → Onward t s g r → (p : ℕ) → p ≡ t .count - t .kl → Least t s g r p r
+rests t s g r sound blank o p ep =
+    let f = hop-rested (t .ku) (t .kl) (t .kind) (t .age) (t .count) r (o .leads .at) (o .next) blank (o .leads .lands) in
+    let e = hop-still (t .ku) (t .kl) (t .kind) (t .age) (t .count) r (o .leads .at) (o .next) (omega arith) (λ z. omega arith) (o .leads .lands) in
+    let h : FitsAt N (t .ku) (t .kl) (suc p) (t .count) = rw ep (lowest-fits (t .ku) (t .kl) (t .count) (f .sum)) in
+    record {
+      low = omega (arith, h .upper, sound .upper);
+      lands = record {
+        lands = hop-rests (t .ku) (t .kl) (t .kind) (t .age) (t .count) r p blank h;
+        within = omega (arith, e, o .within);
+        kept = ap (marked s g) e ∙ o .kept;
+      };
+      first = λ q l x d m. omega (arith, ep, l, lowest-least (hop-rested (t .ku) (t .kl) (t .kind) (t .age) (t .count) r q x blank d));
+    }

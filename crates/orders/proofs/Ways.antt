@@ -10,7 +10,7 @@ use Rattle.rules.specs.Basic.{andThen}
 use Rattle.rules.proofs.Pins.{length-tabulate, getD-tabulate}
 use Rattle.rules.specs.Sheet.{kindIn}
 use Rattle.rules.specs.Judgement.{left}
-use Rattle.steps.specs.Plan.{Step, step, Steps, nil, full, begins, meet, steps}
+use Rattle.steps.specs.Plan.{Step, step, Steps, nil, full, begins, meet, rests, steps}
 use Rattle.steps.specs.Ranks.{hopOf, hops, openAfter, RankOf, Way, Ahead}
 use Rattle.steps.specs.Sets.{ranks}
 use Rattle.orders.specs.Passes.{Passable}
@@ -129,7 +129,7 @@ module _ (ku kl : ℕ) where
 -- a rank of b nets, at a step that finds them and touches one of them
 pub record Ready (k a b r : ℕ) : Type 0 where
   pub few : b ≤ 6
-  pub touched : 0 < k → a < b
+  pub touched : 0 < k → k < 3 → a < b
   pub rank : RankOf b r
 
 -- steps with c nets open before them, and a rank of those
@@ -138,7 +138,7 @@ pub record Comes (c : ℕ) (ss : List Step) (r : ℕ) : Type 0 where
   pub rank : RankOf c r
 
 module _ (ku kl : ℕ) (hu : ku ≤ 3) (hl : kl ≤ 3) where
-  rank-on : (r x p k a b : ℕ) → b ≤ 6 → (0 < k → a < b) → RankOf b r → hopOf ku kl (step k a b) r p ≡ some x →
+  rank-on : (r x p k a b : ℕ) → b ≤ 6 → (0 < k → k < 3 → a < b) → RankOf b r → hopOf ku kl (step k a b) r p ≡ some x →
       RankOf (left (kindIn k) b) x
   rank-on r x p k a b f t l h =
       leads-rank (record { kind = k; age = a; count = b; ku = ku; kl = kl }) (record { few = f; touched = t; upper = hu; lower = hl }) r x l
@@ -152,8 +152,9 @@ module _ (ku kl : ℕ) (hu : ku ≤ 3) (hl : kl ≤ 3) where
       let m : 7 ≤ ku + kl = hop-made ku kl 0 a 6 r p x h .left-open in
       absurd (omega arith)
   past r x p (begins {a} {b} q u) l h =
-      record { plan = u; rank = rank-on r x p 0 a b (omega arith) (λ z. absurd (omega arith)) l h }
-  past r x p (meet {k} {a} {b} z q j f u) l h = record { plan = u; rank = rank-on r x p k a b f (λ v. j) l h }
+      record { plan = u; rank = rank-on r x p 0 a b (omega arith) (λ z v. absurd (omega arith)) l h }
+  past r x p (meet {k} {a} {b} z q j f u) l h = record { plan = u; rank = rank-on r x p k a b f (λ v w. j) l h }
+  past r x p (rests {a} {b} f u) l h = record { plan = u; rank = rank-on r x p 3 a b f (λ v w. absurd (omega arith)) l h }
 
   -- a run through the first steps comes to the others with a rank of the nets that are then open
   pub steps-rest : (i b : ℕ) (ss : List Step) (r x : ℕ) (ps : List ℕ) → Steps b ss → RankOf b r →
@@ -180,6 +181,7 @@ module _ (ku kl : ℕ) (hu : ku ≤ 3) (hl : kl ≤ 3) where
   steps-few full = omega arith
   steps-few (begins h u) = omega arith
   steps-few (meet z q j f u) = f
+  steps-few (rests f u) = f
 
   -- every rank of a way is one of a gap's
   pub way-below : (i : ℕ) (ss : List Step) (x : ℕ) → Steps 0 ss → Way ku kl (take i ss) x → x < ranks
@@ -192,15 +194,19 @@ module _ (ku kl : ℕ) (hu : ku ≤ 3) (hl : kl ≤ 3) where
   ready k a b x ts e full l =
       let n : 6 ≡ b = cc in
       let m : 0 ≡ k = cc in
-      record { few = omega arith; touched = λ h. absurd (omega arith); rank = rw (← n) l }
+      record { few = omega arith; touched = λ h v. absurd (omega arith); rank = rw (← n) l }
   ready k a b x ts e (begins {b = d} h u) l =
       let n : d ≡ b = cc in
       let m : 0 ≡ k = cc in
-      record { few = omega arith; touched = λ v. absurd (omega arith); rank = rw (← n) l }
+      record { few = omega arith; touched = λ v w. absurd (omega arith); rank = rw (← n) l }
   ready k a b x ts e (meet {a = c} {b = d} z q j f u) l =
       let n : d ≡ b = cc in
       let m : c ≡ a = cc in
-      record { few = omega arith; touched = λ v. omega arith; rank = rw (← n) l }
+      record { few = omega arith; touched = λ v w. omega arith; rank = rw (← n) l }
+  ready k a b x ts e (rests {b = d} f u) l =
+      let n : d ≡ b = cc in
+      let m : 3 ≡ k = cc in
+      record { few = omega arith; touched = λ v w. absurd (omega arith); rank = rw (← n) l }
 
   -- it is one of the nets that the next step finds open, and touches one of
   pub way-ready : (i : ℕ) (ss : List Step) (d : Step) (k a b x : ℕ) → Steps 0 ss → i < length ss → getD ss i d ≡ step k a b →
@@ -209,12 +215,13 @@ module _ (ku kl : ℕ) (hu : ku ≤ 3) (hl : kl ≤ 3) where
       let n = way-comes i ss x t w in
       ready k a b x (drop (suc i) ss) (drop-cons ss i d l ∙ ap (λ s. s ∷ drop (suc i) ss) e) (n .plan) (n .rank)
 
--- the first step, which finds no net open, is a B
-pub first-begins : {c : ℕ} {ss : List Step} (k a b : ℕ) (ts : List Step) → ss ≡ step k a b ∷ ts → Steps c ss → c ≡ 0 → 0 < k → ⊥
-first-begins k a b ts e (nil h) z l = let q : _≡_ {A = ℕ} 0 1 = cc in omega arith
-first-begins k a b ts e full z l = omega arith
-first-begins k a b ts e (begins h u) z l = let m : 0 ≡ k = cc in omega arith
-first-begins k a b ts e (meet w q j f u) z l = omega arith
+-- the first step, which finds no net open, is a B or a blank
+pub first-begins : {c : ℕ} {ss : List Step} (k a b : ℕ) (ts : List Step) → ss ≡ step k a b ∷ ts → Steps c ss → c ≡ 0 → 0 < k → k < 3 → ⊥
+first-begins k a b ts e (nil h) z l n = let q : _≡_ {A = ℕ} 0 1 = cc in omega arith
+first-begins k a b ts e full z l n = omega arith
+first-begins k a b ts e (begins h u) z l n = let m : 0 ≡ k = cc in omega arith
+first-begins k a b ts e (meet w q j f u) z l n = omega arith
+first-begins k a b ts e (rests f u) z l n = let m : 3 ≡ k = cc in omega arith
 
 -- the steps that three lists hold, one by one
 pub steps-length : (ks xs cs : List ℕ) → length (steps ks xs cs) ≡ length ks

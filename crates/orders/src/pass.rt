@@ -6,7 +6,7 @@ use steps::open::unopen;
 use steps::rank::Place;
 use steps::rank::Stop;
 use steps::rank::factorial;
-use steps::touch::prune_touched;
+use steps::rest::prune_same;
 use steps::word::word;
 ghost use mathlib.Core.Path.{_≡_};
 ghost use mathlib.Core.Bool.{true};
@@ -174,8 +174,7 @@ fn prune_set(work: &mut [u8], g: usize, stop: Stop, tables: &[u32])
     let kind = stop.kind;
     match kind {
         0 => unopen(work, g, stop),
-        1 => prune_touched(work, g, stop),
         2 => unend(work, g, stop, tables),
-        _ => clear(work, g),
+        _ => prune_same(work, g, stop),
     }
 }

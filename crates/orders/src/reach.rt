@@ -2,6 +2,7 @@
 use steps::end::end;
 use steps::open::open;
 use steps::rank::Stop;
+use steps::rest::rest;
 use steps::touch::touch;
 ghost use Prim.Native.Nat.{suc, _*_, _≤_, _<_};
 ghost use lib.ListN.{length};
@@ -13,7 +14,7 @@ ghost use Rattle.steps.specs.Leading.{Reached};
 
 // Marks in gap g, which is empty, every rank that node g leads to from the ranks before it, and tells whether there is none.
 pub fn spread(work: &mut [u8], g: usize, stop: Stop, tables: &[u32]) -> bool
-    requires { ⌜ Sound stop × (stretch * suc g ≤ length (now work)) × (0 < stop .kind → 0 < g) ⌝ }
+    requires { ⌜ Sound stop × (stretch * suc g ≤ length (now work)) × (0 < stop .kind → stop .kind < 3 → 0 < g) ⌝ }
     requires { ⌜ Empty (now work) g ⌝ }
     requires { ⌜ Sources stop (now work) g ⌝ }
     requires { ⌜ Tables (now tables) ⌝ }
@@ -25,6 +26,6 @@ pub fn spread(work: &mut [u8], g: usize, stop: Stop, tables: &[u32]) -> bool
         0 => open(work, g, stop),
         1 => touch(work, g, stop, tables),
         2 => end(work, g, stop, tables),
-        _ => true,
+        _ => rest(work, g, stop),
     }
 }

@@ -1,2 +1,3 @@
-// Rows by lot, for the trials.
+// Rows and sheets by lot, for the trials.
 pub mod rows;
+pub mod sheets;

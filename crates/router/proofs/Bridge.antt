@@ -12,15 +12,15 @@ use lib.Seq.{take-all, take-length, take-take}
 use lib.Dec.{eqb, eqb·suc-suc}
 use borrow.Author.Tests.{eqb-true, eqb-false}
 use Rattle.rules.specs.Basic.{put, cut, keep, andThen}
-use Rattle.rules.specs.Row.{before, lone, Kind, B, M, E, Node, node, nodes}
-use Rattle.rules.specs.Street.{fits, counted, stands, next, kind, step as streetStep, run, Placing, Earlier, IsFirst, Passes, StopsAt}
+use Rattle.rules.specs.Row.{before, lone, Kind, B, M, E, N, Node, node, nodes}
+use Rattle.rules.specs.Street.{fits, last, limitsAt, fitsAt, counted, stands, next, kind, step as streetStep, run, Placing, Earlier, IsFirst, Passes, StopsAt}
 use Rattle.rules.specs.Sheet.{code, kindIn}
 use Rattle.rules.specs.Judgement.{left}
 use Rattle.rules.proofs.Lists.{length-cut}
 use Rattle.rules.proofs.Fits.{Fits, fits→}
 use Rattle.rules.proofs.Pins.{at-before}
 use Rattle.rules.proofs.Open.{times, times-cut, one, one-other, onto, ends-empty}
-use Rattle.rules.proofs.Legal.{Own, kindIn-code}
+use Rattle.rules.proofs.Legal.{New, Own, kindIn-code}
 use Rattle.rules.proofs.Accepted.{nodes-own}
 use Rattle.rules.proofs.Failing.{passes-take}
 use Rattle.steps.specs.Plan.{Step, step, young, age, Steps, Tells}
@@ -41,7 +41,7 @@ module _ (ku kl : ℕ) where
   kept f false t′ a c e h = rw (← e)
 
   begin-agrees : (x : ℕ) (o : List ℕ) (r p : ℕ) → r < fact (length o) → Agree (node B x) o r p
-  unfolding streetStep stands next kind counted young age code hopOf
+  unfolding streetStep stands next kind counted fits fitsAt last limitsAt young age code hopOf
   begin-agrees x o r p h =
       kept (orderOf (x ∷ o)) (fits ku kl (suc p) (suc (length (orderOf o r)))) (fits ku kl (suc p) (suc (length o))) (p * fact (length o) + r)
       (put (suc p - 1) x (orderOf o r)) (ap (λ b. fits ku kl (suc p) (suc b)) (order-length o r))
@@ -62,13 +62,13 @@ module _ (ku kl : ℕ) where
       (eqb·suc-suc p (before x (orderOf o r)) ∙ ap (eqb p) (stands-at x o r h d f)) (order-length o r)
 
   meet-agrees : (x : ℕ) (o : List ℕ) (r p : ℕ) → before x o < length o → Distinct o → r < fact (length o) → Agree (node M x) o r p
-  unfolding streetStep stands next kind counted young age code hopOf
+  unfolding streetStep stands next kind counted fits fitsAt last limitsAt young age code hopOf
   meet-agrees x o r p h d f =
       kept (orderOf o) (eqb (suc p) (suc (before x (orderOf o r))) && fits ku kl (suc p) (length (orderOf o r)))
       (eqb p (atOf (before x o) (length o) r) && fits ku kl (suc p) (length o)) r (orderOf o r) (touch x o r p h d f) (λ t. refl)
 
   end-agrees : (x : ℕ) (o : List ℕ) (r p : ℕ) → before x o < length o → Distinct o → r < fact (length o) → Agree (node E x) o r p
-  unfolding streetStep stands next kind counted young age code hopOf
+  unfolding streetStep stands next kind counted fits fitsAt last limitsAt young age code hopOf
   end-agrees x o r p h d f =
       kept (orderOf (cut (before x o) o)) (eqb (suc p) (suc (before x (orderOf o r))) && fits ku kl (suc p) (length (orderOf o r)))
       (eqb p (atOf (before x o) (length o) r) && fits ku kl (suc p) (length o)) (lessOf (before x o) (length o) r) (cut (suc p - 1) (orderOf o r))
@@ -86,6 +86,12 @@ module _ (ku kl : ℕ) where
           let k : suc p - 1 ≡ atOf (before x o) (length o) r = omega arith in
           ap (λ i. cut i (orderOf o r)) k ∙ sym (order-less o (before x o) r h f)
 
+  rest-agrees : (x : ℕ) (o : List ℕ) (r p : ℕ) → Agree (node N x) o r p
+  unfolding streetStep stands next kind counted young age code hopOf
+  rest-agrees x o r p =
+      kept (orderOf o) (fitsAt N ku kl (suc p) (length (orderOf o r))) (fitsAt N ku kl (suc p) (length o)) r (orderOf o r)
+      (ap (fitsAt N ku kl (suc p)) (order-length o r)) (λ t. refl)
+
 -- the open nets after nodes
 unfoldable pub youngs : List Node → List ℕ → List ℕ
 youngs [] o = o
@@ -101,15 +107,16 @@ net (node k x) = x
 
 -- what steps say of their first
 record First (b k a c : ℕ) (ss : List Step) : Type 0 where
-  touched : 0 < k → a < c
+  touched : 0 < k → k < 3 → a < c
   count : c ≡ b
   rest : ((k ≡ 0) × (b ≡ 6)) ⊎ Steps (left (kindIn k) b) ss
 
 steps-first : {b k a c : ℕ} {ss : List Step} → Steps b (step k a c ∷ ss) → First b k a c ss
 unfolding left kindIn
-steps-first Steps.full = record { touched = λ t. absurd (omega arith); count = refl; rest = inl (refl, refl) }
-steps-first (Steps.begins h s) = record { touched = λ t. absurd (omega arith); count = refl; rest = inr s }
-steps-first (Steps.meet h l t b s) = record { touched = λ z. t; count = refl; rest = inr s }
+steps-first Steps.full = record { touched = λ t u. absurd (omega arith); count = refl; rest = inl (refl, refl) }
+steps-first (Steps.begins h s) = record { touched = λ t u. absurd (omega arith); count = refl; rest = inr s }
+steps-first (Steps.meet h l t b s) = record { touched = λ z u. t; count = refl; rest = inr s }
+steps-first (Steps.rests b s) = record { touched = λ t u. absurd (omega arith); count = refl; rest = inr s }
 
 one-le : (t : Bool) → one t ≤ 1
 unfolding one
@@ -117,8 +124,8 @@ one-le true = omega arith
 one-le false = omega arith
 
 -- the open nets one node on
-began-next : (i : ℕ) (k : Kind) (x : ℕ) (o : List ℕ) → (k ≡ B → x ≡ i) → Began i o
-    → (0 < code k → before x o < length o) → Began (suc i) (young (node k x) o)
+began-next : (i : ℕ) (k : Kind) (x : ℕ) (o : List ℕ) → (New k → x ≡ i) → Began i o
+    → (0 < code k → code k < 3 → before x o < length o) → Began (suc i) (young (node k x) o)
 unfolding young code times
 began-next i B x o own b t =
     record {
@@ -127,7 +134,7 @@ began-next i B x o own b t =
     }
   where
     e : x ≡ i
-    e = own refl
+    e = own tt
 
     once : (y : ℕ) (c : Bool) → eqb x y ≡ c → (times y o ≡ 0) ⊎ (0 < times y o) → one (eqb x y) + times y o ≤ 1
     once y c q (inl z) = omega (arith, one-le (eqb x y))
@@ -138,44 +145,49 @@ began-next i B x o own b t =
     past y false q h = let z : one (eqb x y) ≡ 0 = one-other y x (eqb-false x y q) in omega (arith, b .past y (omega arith))
 began-next i M x o own b t = record { once = b .once; past = λ y h. omega (arith, b .past y h) }
 began-next i E x o own b t =
-    let l : before x o < length o = t (omega arith) in
+    let l : before x o < length o = t (omega arith) (omega arith) in
     record {
       once = λ y. omega (arith, times-cut y (before x o) o l, b .once y);
       past = λ y h. omega (arith, b .past y (omega (arith, times-cut y (before x o) o l)));
     }
+began-next i N x o own b t = record { once = b .once; past = λ y h. omega (arith, b .past y h) }
 
-own-parts : {i : ℕ} {n : Node} {ns : List Node} → Own i (n ∷ ns) → (kind n ≡ B → net n ≡ i) × Own (suc i) ns
+own-parts : {i : ℕ} {n : Node} {ns : List Node} → Own i (n ∷ ns) → (New (kind n) → net n ≡ i) × Own (suc i) ns
 unfolding kind net
 own-parts (Own.cons h w) = (h, w)
 
-began-node : (i : ℕ) (n : Node) (o : List ℕ) → (kind n ≡ B → net n ≡ i) → Began i o → (0 < code (kind n) → age n o < length o) → Began (suc i) (young n o)
+began-node : (i : ℕ) (n : Node) (o : List ℕ) → (New (kind n) → net n ≡ i) → Began i o → (0 < code (kind n) → code (kind n) < 3 → age n o < length o) → Began (suc i) (young n o)
 unfolding kind net age code
-began-node i (node B x) o own b t = began-next i B x o own b (λ z. absurd (omega arith))
-began-node i (node M x) o own b t = began-next i M x o own b (λ z. t (omega arith))
-began-node i (node E x) o own b t = began-next i E x o own b (λ z. t (omega arith))
+began-node i (node B x) o own b t = began-next i B x o own b (λ z u. absurd (omega arith))
+began-node i (node M x) o own b t = began-next i M x o own b (λ z u. t (omega arith) (omega arith))
+began-node i (node E x) o own b t = began-next i E x o own b (λ z u. t (omega arith) (omega arith))
+began-node i (node N x) o own b t = began-next i N x o own b (λ z u. absurd (omega arith))
 
 code-zero : (k : Kind) → code k ≡ 0 → k ≡ B
 unfolding code
 code-zero B e = refl
 code-zero M e = absurd (omega arith)
 code-zero E e = absurd (omega arith)
+code-zero N e = absurd (omega arith)
 
 module _ (ku kl : ℕ) (hu : ku ≤ 3) (hl : kl ≤ 3) where
-  agrees : (n : Node) (o : List ℕ) (r p : ℕ) → (0 < code (kind n) → age n o < length o) → Distinct o → r < fact (length o) → Agree ku kl n o r p
+  agrees : (n : Node) (o : List ℕ) (r p : ℕ) → (0 < code (kind n) → code (kind n) < 3 → age n o < length o) → Distinct o → r < fact (length o) → Agree ku kl n o r p
   unfolding code kind age
   agrees (node B x) o r p t d h = begin-agrees ku kl x o r p h
-  agrees (node M x) o r p t d h = meet-agrees ku kl x o r p (t (omega arith)) d h
-  agrees (node E x) o r p t d h = end-agrees ku kl x o r p (t (omega arith)) d h
+  agrees (node M x) o r p t d h = meet-agrees ku kl x o r p (t (omega arith) (omega arith)) d h
+  agrees (node E x) o r p t d h = end-agrees ku kl x o r p (t (omega arith) (omega arith)) d h
+  agrees (node N x) o r p t d h = rest-agrees ku kl x o r p
 
-  length-young : (n : Node) (o : List ℕ) → (0 < code (kind n) → age n o < length o) → length (young n o) ≡ left (kind n) (length o)
+  length-young : (n : Node) (o : List ℕ) → (0 < code (kind n) → code (kind n) < 3 → age n o < length o) → length (young n o) ≡ left (kind n) (length o)
   unfolding young left kind code age
   length-young (node B x) o t = refl
   length-young (node M x) o t = refl
-  length-young (node E x) o t = omega (arith, length-cut (before x o) o (t (omega arith)))
+  length-young (node E x) o t = omega (arith, length-cut (before x o) o (t (omega arith) (omega arith)))
+  length-young (node N x) o t = refl
 
   -- a B that finds six nets open gets past no order
   full-none : (x : ℕ) (o : List ℕ) (r p : ℕ) → length o ≡ 6 → streetStep ku kl (node B x) (orderOf o r) (suc p) ≡ none
-  unfolding streetStep stands kind counted keep
+  unfolding streetStep stands kind counted fits fitsAt last limitsAt keep
   full-none x o r p e = go (fits ku kl (suc p) (suc (length (orderOf o r)))) refl
     where
       go : (t : Bool) → fits ku kl (suc p) (suc (length (orderOf o r))) ≡ t → keep t (next (node B x) (orderOf o r) (suc p)) ≡ none

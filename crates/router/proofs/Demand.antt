@@ -12,7 +12,7 @@ use Rattle.rules.specs.Row.{nodes, SamePins}
 use Rattle.rules.specs.Street.{Placing, IsFirst, StopsAt, first}
 use Rattle.rules.specs.Bits.{Below}
 use Rattle.rules.specs.Sheet.{sheet, rowOf}
-use Rattle.rules.specs.Judgement.{judge}
+use Rattle.rules.specs.Judgement.{readable}
 use Rattle.rules.specs.Answers.{written, outcome, routing, firstSheet, sheetAfter, agrees}
 use Rattle.rules.proofs.Pins.{same-nodes}
 use Rattle.rules.proofs.Demand3.{Checked, routing-outcome, sheet-exactly, six-exactly, first-bytes, equal-sheets}
@@ -37,7 +37,7 @@ module _ (row : List ℕ) (ku kl : ℕ) (work out : List ℕ) (r : Routing) (wor
   first-placing-bytes ps f = call .written ∙ ap (λ a. sheetAfter a row ku kl out) (call .answer) ∙ first-bytes row ku kl work out checked ps f
 
   -- reading the router's sheet gives back the row's pins, and the agreement test says yes of the row and its sheet
-  pub reads-back : Below 256 row → r ≡ Sheet (length row) → (judge (firstSheet row ku kl) ≡ none) × SamePins row (rowOf (firstSheet row ku kl))
+  pub reads-back : Below 256 row → r ≡ Sheet (length row) → (readable (firstSheet row ku kl) ≡ none) × SamePins row (rowOf (firstSheet row ku kl))
   reads-back b e = routed-pins row ku kl work out b checked (sym (call .answer) ∙ e)
 
   pub agrees-with-it : Below 256 row → r ≡ Sheet (length row) → agrees row (firstSheet row ku kl) ≡ true
@@ -55,10 +55,10 @@ module _ (row row₂ : List ℕ) (ku kl : ℕ) (work out work₂ out₂ : List �
       ∙ ap (λ ns. outcome ku kl ns (first ku kl ns)) (same-nodes row row₂ s)
       ∙ sym (call₂ .answer ∙ routing-outcome row₂ ku kl work₂ out₂ checked₂)
 
--- two rows that get sheets get equal ones exactly when they join the same pins under the same track counts
-pub sheets-equal : (row row₂ : List ℕ) (ku kl ku₂ kl₂ : ℕ) (work out work₂ out₂ : List ℕ) → Below 256 row → Below 256 row₂
+-- two rows that get sheets get equal ones exactly when they join the same pins and have the same blanks under the same track counts
+pub sheets-equal : (row row₂ : List ℕ) (ku kl ku₂ kl₂ : ℕ) (work out work₂ out₂ : List ℕ)
     → Checked row ku kl work out → Checked row₂ ku₂ kl₂ work₂ out₂
     → routing row ku kl work out ≡ Sheet (length row) → routing row₂ ku₂ kl₂ work₂ out₂ ≡ Sheet (length row₂)
     → firstSheet row ku kl ≡ firstSheet row₂ ku₂ kl₂ ↔ (SamePins row row₂ × (ku ≡ ku₂) × (kl ≡ kl₂))
-sheets-equal row row₂ ku kl ku₂ kl₂ work out work₂ out₂ b b₂ c c₂ g g₂ =
-    equal-sheets row row₂ ku kl ku₂ kl₂ work out work₂ out₂ b b₂ c c₂ g g₂
+sheets-equal row row₂ ku kl ku₂ kl₂ work out work₂ out₂ c c₂ g g₂ =
+    equal-sheets row row₂ ku kl ku₂ kl₂ work out work₂ out₂ c c₂ g g₂

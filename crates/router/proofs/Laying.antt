@@ -14,7 +14,7 @@ use Rattle.rules.specs.Street.{kind, next, run, IsFirst, StopsAt, first}
 use Rattle.rules.specs.Bits.{Below, bytes}
 use Rattle.rules.specs.Sheet.{code, entries, sheetBits, sheet}
 use Rattle.rules.specs.Answers.{written, outcome, cleared, workAfter, firstSheet, sheetAfter}
-use Rattle.rules.proofs.Fields.{below-take, below-mono}
+use Rattle.rules.proofs.Fields.{below-take}
 use Rattle.rules.proofs.Open.{onto}
 use Rattle.rules.proofs.Search.{first-unique, no-placing}
 use Rattle.rules.proofs.Failing.{stops-failing}
@@ -138,7 +138,7 @@ module _ (row kinds ages counts : List ℕ) (ku kl : ℕ) (work out : List ℕ) 
             lower = fit .lower;
             long = sym places-cut ∙ kinds-cut;
             few = omega (arith, kinds-cut, fit .most);
-            kind = below-mono (omega arith) (below-take n (told .cells .small));
+            kind = below-take n (told .cells .small);
             place = places-low ku kl (fit .upper) (nodes row) [] (take n ps) [] (is-first .placing);
             room = rw (← kinds-cut) (fit .sheet-long);
           }

@@ -1,5 +1,6 @@
--- What one node of the last pass does: a new net enters at the least place whose rank is marked, a touched one stands where the order has it.
-use mathlib.Core.Path.{_≡_, sym, ap, _∙_}
+-- What one node of the last pass does: a new net enters at the least place whose rank is marked, a touched one stands where the order has it, and a blank leaves the
+-- order as it is.
+use mathlib.Core.Path.{_≡_, refl, sym, ap, _∙_}
 use mathlib.Core.List.{List}
 use Prim.Native.Nat.{ℕ, suc, _-_, _<_}
 use native.Mathlib.Omega.{arith}
@@ -14,7 +15,7 @@ use Rattle.steps.specs.Ranks.{lessOf}
 use Rattle.steps.specs.Sets.{marked}
 use Rattle.orders.specs.Passes.{Entry}
 use Rattle.steps.specs.Leading.{Least}
-use Rattle.orders.proofs.Staying.{after-touch, after-end, stays}
+use Rattle.orders.proofs.Staying.{after-touch, after-end, stays, rests}
 use Rattle.orders.proofs.Entering.{enters}
 use Rattle.router.specs.Walk.{Standing, Stood}
 
@@ -36,9 +37,9 @@ module _ (held : Order) (t : Stop) (work : List ℕ) (g r x : ℕ) (w : Standing
         record { least = entered; sound = s; list = rw begins (l ∙ ap (λ (k : ℕ). put k x (listed held)) (sym (less p))) }
 
   -- a touched net
-  module _ (touched : 0 < t .kind) where
+  module _ (touched : 0 < t .kind) (known : t .kind < 3) where
     stands : (w .onward .leads .at ≡ before x (listed held)) × (w .onward .leads .at < held .count)
-    stands = w .placed (w .onward .leads .at) (w .onward .next) (w .onward .leads .lands) .stands touched
+    stands = w .placed (w .onward .leads .at) (w .onward .next) (w .onward .leads .lands) .stands touched known
 
     pub touched-open : before x (listed held) < held .count
     touched-open = omega (arith, stands .0, stands .1)
@@ -51,7 +52,7 @@ module _ (held : Order) (t : Stop) (work : List ℕ) (g r x : ℕ) (w : Standing
       unfolding kindIn next
       met-stood e =
           record {
-            least = stays t work g r (w .stop) touched (w .kind) (w .rank) (w .onward) p r at-found (after-touch (t .kind) (t .age) (t .count) r e);
+            least = stays t work g r (w .stop) touched known (w .rank) (w .onward) p r at-found (after-touch (t .kind) (t .age) (t .count) r e);
             sound = w .sound;
             list = rw e;
           }
@@ -61,8 +62,15 @@ module _ (held : Order) (t : Stop) (work : List ℕ) (g r x : ℕ) (w : Standing
       unfolding kindIn next
       ended-stood e y l after s c =
           record {
-            least = stays t work g r (w .stop) touched (w .kind) (w .rank) (w .onward) p y at-found
+            least = stays t work g r (w .stop) touched known (w .rank) (w .onward) p y at-found
                 (l ∙ after-end (t .kind) (t .age) (t .count) r touched (λ d. omega arith));
             sound = s;
             list = rw e (c ∙ ap (λ (k : ℕ). cut k (listed held)) (sym (less p)));
           }
+
+  -- a blank
+  pub rested-stood : 2 < t .kind → (p : ℕ) → p ≡ t .count - t .kl → Stood held t work g r x p r held
+  unfolding kindIn next
+  rested-stood h p e =
+      let k : t .kind ≡ 3 = omega (arith, w .kind) in
+      record { least = rests t work g r (w .stop) h (w .onward) p e; sound = w .sound; list = rw k refl }

@@ -9,7 +9,7 @@ use lib.ListN.{length, getD, take, set}
 use Rattle.rules.specs.Row.{Node, node, nodes}
 use Rattle.rules.specs.Street.{kind, next}
 use Rattle.rules.specs.Sheet.{code, kindIn}
-use Rattle.rules.proofs.Legal.{kindIn-code}
+use Rattle.rules.proofs.Legal.{kindIn-code, code-lt}
 use Rattle.street.specs.declared.Order.{Order}
 use Rattle.street.specs.Order.{listed, Emptied}
 use Rattle.steps.specs.declared.rank.Stop.{Stop}
@@ -19,7 +19,7 @@ use Rattle.steps.specs.Stops.{stopOf, hopAt}
 use Rattle.orders.specs.Passes.{Given, Kept, Passable, First}
 use Rattle.orders.proofs.Ways.{steps-at}
 use Rattle.orders.proofs.Nodes.{stop-ready}
-use Rattle.orders.proofs.Picking.{Picks, picks-start, picks-step, picks-end, leads-on, known-kind, marks-led}
+use Rattle.orders.proofs.Picking.{Picks, picks-start, picks-step, picks-end, leads-on, marks-led}
 use Rattle.router.specs.Walk.{Planned, Standing, Stood}
 use Rattle.router.proofs.Holding.{Holding, kindAt, kind-told, holding-none, holding-placed, holding-more}
 
@@ -61,7 +61,7 @@ module _ (row kinds ages counts : List ℕ) (ku kl : ℕ) (work : List ℕ) (giv
         record {
           sound = w .holding .sound;
           stop = s .0;
-          kind = known-kind kinds ages counts ku kl work given kept i r ps inside (w .picks);
+          kind = omega (arith, kind-at, code-lt (kindAt row i));
           room = omega (arith, given .room, inside);
           rank = s .1 .below;
           onward = leads-on kinds ages counts ku kl work given kept i r ps inside (w .picks);

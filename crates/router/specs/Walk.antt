@@ -24,16 +24,16 @@ pub record Planned (row kinds ages counts : List ℕ) : Type 0 where
   pub whole : (i : ℕ) → i < length row → lone row i ≡ false
   pub tells : Tells (nodes row) [] (steps kinds ages counts)
 
--- at a node of this kind field the net with label x can stand below p others of the order
+-- at a node of this kind field the net with label x can stand below p others of the order; nothing is asked of a blank
 pub record Placed (held : Order) (k x p : ℕ) : Type 0 where
   pub opens : k ≡ 0 → (held .count < capacity) × (p ≤ held .count)
-  pub stands : 0 < k → (p ≡ before x (listed held)) × (p < held .count)
+  pub stands : 0 < k → k < 3 → (p ≡ before x (listed held)) × (p < held .count)
 
 -- a stop before gap g with rank r and an order: some position leads on, a hop made each mark, and where a hop goes the order has room for label x
 pub record Standing (held : Order) (t : Stop) (work : List ℕ) (g r x : ℕ) : Type 0 where
   pub sound : Sound held
   pub stop : SoundStop t
-  pub kind : t .kind < 3
+  pub kind : t .kind < 4
   pub room : stretch * suc g ≤ length work
   pub rank : r < fact (t .count)
   pub onward : Onward t work g r

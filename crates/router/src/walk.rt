@@ -6,6 +6,7 @@ use steps::rank::locate;
 use street::Order;
 ghost use mathlib.Core.Path.{_≡_};
 ghost use mathlib.Core.List.{map};
+ghost use Prim.Native.Nat.{_-_};
 ghost use lib.ListN.{length};
 ghost use Rattle.rules.specs.Row.{Node, nodes};
 ghost use Rattle.rules.specs.Street.{kind};
@@ -15,7 +16,7 @@ ghost use Rattle.steps.specs.Four.{Tables};
 ghost use Rattle.orders.specs.Passes.{Given, Kept, Passable, Picked};
 ghost use Rattle.router.specs.Walk.{Planned, Standing, Stood};
 
-// Where the net of a node stands, and the rank and the order after the node.
+// How many wires stand above a node, and the rank and the order after it.
 struct Turn {
     place: u8,
     rank: usize,
@@ -23,7 +24,7 @@ struct Turn {
 }
 
 // Fills in the first positions, in reading order, that lead through all nodes: a new net goes to the least place whose rank is marked, another stands where the
-// order has it.
+// order has it, and a blank has as few wires above as the lower street allows.
 pub fn walk(
     row: &[u8],
     work: &[u8],
@@ -85,7 +86,7 @@ fn stand(held: Order, r: usize, stop: Stop, x: u8, work: &[u8], g: usize, tables
                 held,
             }
         }
-        _ => {
+        2 => {
             let place = held.find(x);
             let left = locate(tables, a, b, r);
             let rank = left.rest;
@@ -96,5 +97,20 @@ fn stand(held: Order, r: usize, stop: Stop, x: u8, work: &[u8], g: usize, tables
                 held: next,
             }
         }
+        _ => Turn {
+            place: fewest_above(stop.count, stop.kl),
+            rank: r,
+            held,
+        },
     }
+}
+
+// The fewest of b wires that can pass above a blank, where at most kl can pass below.
+fn fewest_above(b: u8, kl: u8) -> u8
+    ensures { λ s. ⌜ s ≡ b - kl ⌝ }
+{
+    if b < kl {
+        return 0;
+    }
+    b - kl
 }

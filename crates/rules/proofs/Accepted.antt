@@ -1,31 +1,28 @@
--- A sheet is accepted exactly when it is the sheet of some row's placing; the row given back joins the same pins.
+-- A sheet is accepted exactly when it is the sheet of some row's placing and has at most 255 nets; the row given back has the same pins.
 use mathlib.Core.Path.{_≡_, refl, sym, ap, ap₂, _∙_}
 use mathlib.Core.Bool.{Bool, true, false, not, _&&_, _||_}
 use mathlib.Core.List.{List, [], _∷_, _++_, map, tail as list-tail}
-use mathlib.Core.Logic.{_↔_, _⊎_, inl, inr}
+use mathlib.Core.Logic.{_↔_}
 use mathlib.Core.Option.{Option, none, some}
-use Prim.Native.Nat.{ℕ, zero, suc, _+_, _-_, _*_, _≤_, _<_}
-use native.Mathlib.Nat.{eq-zero-or-pos, add-zero, zero-add}
+use Prim.Native.Nat.{ℕ, zero, suc, _+_, _-_, _≤_, _<_}
+use native.Mathlib.Nat.{add-zero, zero-add}
 use native.Mathlib.Omega.{arith}
 use lib.ListN.{length, getD}
-use lib.Dec.{T, eqb, ltb, leb}
-use borrow.Author.Tests.{not-false, eqb-true, eqb-false, eq-eqb, ltb-true, ltb-false, le-ltb, leb-true, le-leb}
-use Rattle.rules.specs.declared.Fault.{Fault}
-use Rattle.rules.specs.declared.Fault.the-variants.{Head, Tracks, Length, Open, Padding}
-use Rattle.rules.specs.Basic.{keep, orElse, tabulate}
-use Rattle.rules.specs.Row.{before, home, later, lone, Kind, B, M, E, Node, node, nodeAt, nodes, kindOf, SamePins}
-use Rattle.rules.specs.Street.{counted, kind, next, run, Placing}
+use lib.Dec.{eqb, ltb, leb}
+use borrow.Author.Tests.{not-false, eqb-true, eq-eqb, ltb-false, le-ltb, leb-true, le-leb}
+use Rattle.rules.specs.declared.Fault.the-variants.{Head, Tracks, Length, Open, Padding, Nets}
+use Rattle.rules.specs.Basic.{pick, keep, orElse, tabulate}
+use Rattle.rules.specs.Row.{blank, home, later, Kind, B, M, E, N, Node, node, nodeAt, nodes, kindOf, SamePins}
+use Rattle.rules.specs.Street.{last, counted, kind, run}
 use Rattle.rules.specs.Bits.{Below, bytes}
-use Rattle.rules.specs.Sheet.{takes, code, kindIn, Entry, entry, entries, size, sheetBits, sheet, upperOf, lowerOf, countOf, entriesOf, paddingOf, begun, labelled, labels, rowOf, Placed, SheetOf}
-use Rattle.rules.specs.Judgement.{wrongCount, head, middle, tail, judge, left, leftOpen, scan}
-use Rattle.rules.proofs.Fields.{below-mono}
-use Rattle.rules.proofs.Fits.{Fits}
-use Rattle.rules.proofs.Runs.{runs-length, at-ends}
+use Rattle.rules.specs.Sheet.{takes, code, kindIn, Entry, entry, entries, size, sheetBits, sheet, upperOf, lowerOf, countOf, entriesOf, paddingOf, begun, begunBy, netsOf, netAt, nets, pinsOf, rowOf, Placed, SheetOf}
+use Rattle.rules.specs.Judgement.{wrongCount, head, middle, tail, judge, crowded, readable, left, leftOpen}
+use Rattle.rules.proofs.Fits.{FitsAt}
 use Rattle.rules.proofs.Pins.{length-tabulate, nodes-same}
 use Rattle.rules.proofs.Open.{onto, times}
-use Rattle.rules.proofs.Legal.{Legal, done, then, scan-legal, legal-scan, legal-open, code-lt, code-kindIn, kindIn-code, placing-legal, Own, same-entries}
-use Rattle.rules.proofs.GivenBack.{times-at, times-begin, times-end, one-pos, places, entryKind, Numbered, Back, given-back, then-order, length-then}
-use Rattle.rules.proofs.SheetFields.{Narrow, LaidOut, laid-out, laid-out-again, upperOf-lt, lowerOf-lt, countOf-lt, narrow-entriesOf, length-entriesOf, same-bytes}
+use Rattle.rules.proofs.Legal.{Legal, done, then, scan-legal, legal-scan, legal-open, code-lt, code-kindIn, kindIn-code, placing-legal, New, Own, same-entries}
+use Rattle.rules.proofs.GivenBack.{times-at, places, entryKind, Numbered, Clear, given-back, Walk, walk-next, no-walk, labelled, labels, then-order, length-then, begunBy-le}
+use Rattle.rules.proofs.SheetFields.{Narrow, LaidOut, laid-out, laid-out-again, narrow-entriesOf, length-entriesOf}
 
 -- ---- the entries of a placing
 
@@ -73,66 +70,46 @@ entries-back : (ku kl : ℕ) {b : ℕ} {es : List Entry} → Legal ku kl b es �
 unfolding entries places entryKind
 entries-back ku kl done w [] e = refl
 entries-back ku kl done w (n ∷ ns) e = let z : _≡_ {A = ℕ} 0 1 = cc in absurd (omega arith)
-entries-back ku kl (then f≢ h l) w [] e = let z : _≡_ {A = ℕ} 0 1 = cc in absurd (omega arith)
-entries-back ku kl (then {b} {f} {a} {es} f≢ h l) (Narrow.cons u v w) (n ∷ ns) e =
+entries-back ku kl (then h l) w [] e = let z : _≡_ {A = ℕ} 0 1 = cc in absurd (omega arith)
+entries-back ku kl (then {b} {f} {a} {es} h l) (Narrow.cons u v w) (n ∷ ns) e =
     let k : kind n ≡ kindIn f = cc in
     ap₂ {C = List Entry} (λ x y. x ∷ y)
     (ap₂ entry (ap code k ∙ code-kindIn f (omega arith)) (omega arith))
     (entries-back ku kl l w ns (ap list-tail e))
 
--- ---- at most 256 nets
-
-unfoldable pub begins : List Entry → ℕ
-begins [] = 0
-begins (entry f a ∷ es) = begun (kindIn f) (begins es)
+-- ---- how many nets
 
 -- each net that begins ends
-pub begins-twice : {ku kl b : ℕ} {es : List Entry} → Legal ku kl b es → begins es + begins es + b ≤ length es
-unfolding begins begun left counted
-begins-twice done = omega arith
-begins-twice (then {b} {f} {a} {es} f≢ h l) = go (kindIn f) h (begins-twice l)
+pub begunBy-twice : {ku kl b : ℕ} {es : List Entry} → Legal ku kl b es → (n : ℕ) → begunBy n es + begunBy n es + b ≤ length es + n + n
+unfolding begunBy begun left last counted
+begunBy-twice done n = omega arith
+begunBy-twice {ku} {kl} (then {b} {f} {a} {es} h l) n = go (kindIn f) h (begunBy-twice l (begun (kindIn f) n))
   where
-    go : {ku kl : ℕ} (k : Kind) → Fits ku kl (suc a) (counted k b) → begins es + begins es + left k b ≤ length es
-        → begun k (begins es) + begun k (begins es) + b ≤ suc (length es)
+    go : (k : Kind) → FitsAt k ku kl (suc a) (counted k b) → begunBy (begun k n) es + begunBy (begun k n) es + left k b ≤ length es + begun k n + begun k n
+        → begunBy (begun k n) es + begunBy (begun k n) es + b ≤ suc (length es) + n + n
     go B h i = omega arith
     go M h i = omega arith
     go E h i = omega (arith, h .high)
+    go N h i = omega arith
 
--- nets in the order have begun
-begun-then : (k : Kind) (a n : ℕ) (o : List ℕ) → a < counted k (length o) → ((x : ℕ) → 0 < times x o → x < n)
-    → (x : ℕ) → 0 < times x (then-order k a n o) → x < begun k n
-unfolding counted begun next
-begun-then B a n o h low x t = go (eq-zero-or-pos (times x o))
-  where
-    go : (times x o ≡ 0) ⊎ (0 < times x o) → x < suc n
-    go (inl z) = let e : n ≡ x = one-pos x n (omega (arith, times-begin x a n o)) in omega arith
-    go (inr q) = omega (arith, low x q)
-begun-then M a n o h low x t = low x t
-begun-then E a n o h low x t = low x (omega (arith, times-end x a n o h))
+net-low : (k : Kind) (a n x : ℕ) (o : List ℕ) → a < last k (counted k (length o)) → ((y : ℕ) → 0 < times y o → y < n) → netAt k a n o ≡ some x → x < begun k n
+unfolding last counted begun netAt
+net-low B a n x o h low e = let z : n ≡ x = cc in omega arith
+net-low M a n x o h low e = let z : getD o a 0 ≡ x = cc in omega (arith, low (getD o a 0) (times-at o a h))
+net-low E a n x o h low e = let z : getD o a 0 ≡ x = cc in omega (arith, low (getD o a 0) (times-at o a h))
+net-low N a n x o h low e = let z : _≡_ {A = ℕ} 0 1 = cc in absurd (omega arith)
 
-label-low : (k : Kind) (a n m : ℕ) (o : List ℕ) → a < counted k (length o) → ((x : ℕ) → 0 < times x o → x < n) → labelled k a n o < n + begun k m
-unfolding counted begun labelled
-label-low B a n m o h low = omega arith
-label-low M a n m o h low = omega (arith, low (getD o a 0) (times-at o a h))
-label-low E a n m o h low = omega (arith, low (getD o a 0) (times-at o a h))
-
-begun-add : (k : Kind) (n m : ℕ) → begun k n + m ≡ n + begun k m
-unfolding begun
-begun-add B n m = omega arith
-begun-add M n m = refl
-begun-add E n m = refl
-
--- labels stay below the number of nets
-labels-below : {ku kl b : ℕ} {es : List Entry} → Legal ku kl b es → (n : ℕ) (o : List ℕ) → length o ≡ b → ((x : ℕ) → 0 < times x o → x < n)
-    → Below (n + begins es) (labels n o es)
-unfolding labels begins
-labels-below done n o q low = Below.nil
-labels-below (then {b} {f} {a} {es} f≢ h l) n o q low =
+-- the nets at pins are numbered below how many there are
+nets-low : {ku kl b : ℕ} {es : List Entry} → Legal ku kl b es → (n : ℕ) (o pre : List ℕ) → length o ≡ b → Walk 0 pre n o
+    → (i x : ℕ) → getD (nets n o es) i none ≡ some x → x < begunBy n es
+unfolding nets begunBy
+nets-low done n o pre q w i x e = let z : _≡_ {A = ℕ} 0 1 = cc in absurd (omega arith)
+nets-low (then {b} {f} {a} {es} h l) n o pre q w zero x e =
+    omega (arith, net-low (kindIn f) a n x o (rw q (h .high)) (w .low) e, begunBy-le (begun (kindIn f) n) es)
+nets-low (then {b} {f} {a} {es} h l) n o pre q w (suc i) x e =
     let k : Kind = kindIn f in
-    let g : a < counted k (length o) = rw q (h .high) in
-    Below.cons (label-low k a n (begins es) o g low)
-    (rw (begun-add k n (begins es)) at
-    (labels-below l (begun k n) (then-order k a n o) (length-then k a n o g ∙ ap (left k) q) (begun-then k a n o g low)))
+    let g : a < last k (counted k (length o)) = rw q (h .high) in
+    nets-low l (begun k n) (then-order k a n o) (pre ++ (labelled k a n o ∷ [])) (length-then k a n o g ∙ ap (left k) q) (walk-next 0 k a pre n o w g) i x e
 
 -- ---- accepted sheets
 
@@ -226,21 +203,23 @@ size-pos : (n : ℕ) → 2 ≤ size n
 unfolding size
 size-pos n = omega arith
 
--- each B of a row's nodes has its own number for a net
+-- each B and each blank of a row's nodes has its own number
 tabulated-own : (row : List ℕ) (k i : ℕ) (f : ℕ → Node) → ((j : ℕ) → f j ≡ nodeAt row (i + j)) → Own i (tabulate f k)
-unfolding tabulate nodeAt kindOf
+unfolding tabulate nodeAt pick kindOf
 tabulated-own row zero i f e = Own.nil
 tabulated-own row (suc k) i f e =
     let q : f 0 ≡ nodeAt row i = e 0 ∙ ap (nodeAt row) (add-zero i) in
-    rw q (Own.cons (own (eqb (home row i) i) refl) (tabulated-own row k (suc i) (λ j. f (suc j)) (λ j. e (suc j) ∙ ap (nodeAt row) (omega arith))))
+    rw q (one-more (blank row i) (tabulated-own row k (suc i) (λ j. f (suc j)) (λ j. e (suc j) ∙ ap (nodeAt row) (omega arith))))
   where
-    own : (t : Bool) → eqb (home row i) i ≡ t → kindOf t (later row i) ≡ B → home row i ≡ i
-    own true a b = eqb-true (home row i) i a
-    own false a b = go (later row i) b
-      where
-        go : (l : Bool) → kindOf false l ≡ B → home row i ≡ i
-        go true b = let z : _≡_ {A = ℕ} 0 1 = cc in absurd (omega arith)
-        go false b = let z : _≡_ {A = ℕ} 0 1 = cc in absurd (omega arith)
+    own : (t l : Bool) → eqb (home row i) i ≡ t → New (kindOf t l) → home row i ≡ i
+    own true l a b = eqb-true (home row i) i a
+    own false true a b = absurd b
+    own false false a b = absurd b
+
+    one-more : (t : Bool) {ns : List Node} → Own (suc i) ns
+        → Own i (pick t (node N i) (node (kindOf (eqb (home row i) i) (later row i)) (home row i)) ∷ ns)
+    one-more true o = Own.cons (λ b. refl) o
+    one-more false o = Own.cons (own (eqb (home row i) i) (later row i) refl) o
 
 pub nodes-own : (row : List ℕ) → Own 0 (nodes row)
 unfolding nodes
@@ -271,22 +250,37 @@ module _ (s : List ℕ) where
   pub sheet-accepted : SheetOf s → judge s ≡ none
   sheet-accepted x = ap judge (x .is) ∙ passed-judge (sheet (x .ku) (x .kl) (nodes (x .row)) (x .ps)) (placed-passed (x .row) (x .ku) (x .kl) (x .ps) (x .placed))
 
-  pub accepted-sheet : Below 256 s → judge s ≡ none → SheetOf s
-  unfolding rowOf sheet times
-  accepted-sheet b e =
+  pub crowded-few : crowded s ≡ none → netsOf s ≤ 255
+  unfolding crowded
+  crowded-few e = ltb-false 255 (netsOf s) (keep-none _ Nets e)
+
+  pub few-crowded : netsOf s ≤ 255 → crowded s ≡ none
+  unfolding crowded
+  few-crowded h = none-keep Nets (le-ltb 255 (netsOf s) h)
+
+  -- the reader's rules are the judgement and at most 255 nets
+  pub readable-exactly : readable s ≡ none ↔ ((judge s ≡ none) × (netsOf s ≤ 255))
+  unfolding readable
+  readable-exactly =
+      (λ e. let a = orElse-none (judge s) (crowded s) e in (a .0, crowded-few (a .1)), λ p. none-orElse (p .0) (few-crowded (p .1)))
+
+  -- a sheet that passes is that of its row with the nets numbered from m on, where none is 255
+  sheet-from : (m : ℕ) → Clear m m (entriesOf s) → Below 256 s → judge s ≡ none → SheetOf s
+  unfolding sheet
+  sheet-from m clear b e =
       let p = judge-passed s e in
-      let k = given-back (upperOf s) (lowerOf s) (p .legal) in
-      let n : length (rowOf s) ≡ countOf s = k .count ∙ length-entriesOf s in
+      let row : List ℕ = labels m [] (entriesOf s) in
+      let k = given-back (upperOf s) (lowerOf s) m (p .legal) clear in
+      let n : length row ≡ countOf s = k .count ∙ length-entriesOf s in
       let c = count-within (countOf s) (p .count) in
       let t = takes-le (upperOf s) (lowerOf s) (p .tracks) in
       record {
-        row = rowOf s;
+        row = row;
         ku = upperOf s;
         kl = lowerOf s;
         ps = places (entriesOf s);
         placed =
             record {
-              bytes-alone = below-mono (omega (arith, begins-twice (p .legal), length-entriesOf s)) (labels-below (p .legal) 0 [] refl (λ x t. absurd (omega arith)));
               least = rw n (c .0);
               most = rw n (c .1);
               whole = k .whole;
@@ -296,15 +290,31 @@ module _ (s : List ℕ) where
             };
         is = laid-out-again b (p .sized) (p .clear)
             ∙ ap (λ es. bytes (sheetBits (upperOf s) (lowerOf s) es))
-            (sym (entries-back (upperOf s) (lowerOf s) (p .legal) (narrow-entriesOf s) (nodes (rowOf s)) (k .kinds)));
+            (sym (entries-back (upperOf s) (lowerOf s) (p .legal) (narrow-entriesOf s) (nodes row) (k .kinds)));
       }
 
-  -- the row given back joins the pins of every row whose sheet this is
-  pub given-pins : (x : SheetOf s) → SamePins (x .row) (rowOf s)
-  unfolding rowOf
-  given-pins x =
+  -- the judgement passes exactly for the sheets of placings, of 256 nets too
+  pub taken : Below 256 s → judge s ≡ none ↔ SheetOf s
+  taken b = (sheet-from 256 (λ x h l (q : x ≡ 255). omega arith) b, sheet-accepted)
+
+  few-clear : netsOf s ≤ 255 → Clear 0 0 (entriesOf s)
+  unfolding netsOf
+  few-clear few x h l q = omega arith
+
+  -- one of at most 255 nets is that of the row given back
+  pub accepted-sheet : Below 256 s → judge s ≡ none → netsOf s ≤ 255 → SheetOf s
+  accepted-sheet b e few = sheet-from 0 (few-clear few) b e
+
+  pub accepted-row : (b : Below 256 s) (e : judge s ≡ none) (few : netsOf s ≤ 255) → accepted-sheet b e few .row ≡ rowOf s
+  unfolding accepted-sheet sheet-from rowOf pinsOf
+  accepted-row b e few = refl
+
+  -- the row given back has the pins of every row whose sheet this is
+  pub given-pins : (x : SheetOf s) → netsOf s ≤ 255 → SamePins (x .row) (rowOf s)
+  unfolding rowOf pinsOf
+  given-pins x few =
       let p = judge-passed s (sheet-accepted x) in
-      let k = given-back (upperOf s) (lowerOf s) (p .legal) in
+      let k = given-back (upperOf s) (lowerOf s) 0 (p .legal) (few-clear few) in
       let l = placed-laid (x .row) (x .ku) (x .kl) (x .ps) (x .placed) in
       let run₁ = x .placed .placing in
       let es : entriesOf s ≡ entries (nodes (x .row)) (x .ps) = ap entriesOf (x .is) ∙ l .nodes in
@@ -319,13 +329,23 @@ module _ (s : List ℕ) where
       (sym (kinds-entries (x .ku) (x .kl) (nodes (x .row)) [] (x .ps) [] run₁) ∙ ap (map entryKind) (sym es) ∙ sym (k .kinds)))
 
   -- and is labelled 0, 1, 2 in the order of the nets' first nodes
-  pub given-numbered : judge s ≡ none → Numbered (rowOf s)
-  unfolding rowOf
-  given-numbered e = given-back (upperOf s) (lowerOf s) (judge-passed s e .legal) .numbered
+  pub given-numbered : readable s ≡ none → Numbered 0 (rowOf s)
+  unfolding rowOf pinsOf
+  given-numbered e = let r = readable-exactly .0 e in given-back (upperOf s) (lowerOf s) 0 (judge-passed s (r .0) .legal) (few-clear (r .1)) .numbered
 
-  -- accepted exactly when it is the sheet of some row's placing
-  pub accepted : Below 256 s → judge s ≡ none ↔ SheetOf s
-  accepted b = (accepted-sheet b, sheet-accepted)
+  -- nets are numbered below how many there are; there are at most half as many as nodes
+  pub pins-low : judge s ≡ none → (i x : ℕ) → getD (pinsOf s) i none ≡ some x → x < netsOf s
+  unfolding pinsOf netsOf
+  pins-low e = nets-low (judge-passed s e .legal) 0 [] [] refl (no-walk 0)
+
+  pub nets-half : judge s ≡ none → netsOf s + netsOf s ≤ countOf s
+  unfolding netsOf
+  nets-half e = omega (arith, begunBy-twice (judge-passed s e .legal) 0, length-entriesOf s)
+
+  -- accepted exactly when it is the sheet of some row's placing and has at most 255 nets
+  pub accepted : Below 256 s → readable s ≡ none ↔ (SheetOf s × (netsOf s ≤ 255))
+  accepted b =
+      (λ e. let r = readable-exactly .0 e in (taken b .0 (r .0), r .1), λ x. readable-exactly .1 (sheet-accepted (x .0), x .1))
 
 -- two sheets of placings are equal exactly when track counts, kinds and positions are; then the rows join the same pins
 module _ (row row′ : List ℕ) (ku kl ku′ kl′ : ℕ) (ps ps′ : List ℕ) (p : Placed row ku kl ps) (p′ : Placed row′ ku′ kl′ ps′) where

@@ -1,27 +1,28 @@
--- Demand 2 of the letter, first half, on the answers of reader and agreement test: exactly the sheets of placings are taken, and their pins come back.
-use mathlib.Core.Path.{_≡_, refl, sym, ap, ap₂, _∙_}
+-- Demand 2 of the letter, first half, on the answers of reader and agreement test: exactly the sheets of placings with at most 255 nets are
+-- taken, and their pins come back.
+use mathlib.Core.Path.{_≡_, refl, ap}
 use mathlib.Core.Bool.{Bool, true, false, _&&_}
 use mathlib.Core.List.{List, []}
 use mathlib.Core.Logic.{_↔_}
 use mathlib.Core.Option.{Option, none, some, Option·map}
-use Prim.Native.Nat.{ℕ, _≤_, _<_}
+use Prim.Native.Nat.{ℕ, _≤_}
 use native.Mathlib.Omega.{arith}
 use lib.ListN.{length}
 use lib.Dec.{ltb}
-use borrow.Author.Tests.{ltb-true, ltb-false, le-ltb}
+use borrow.Author.Tests.{ltb-false, le-ltb}
 use Rattle.rules.specs.declared.Fault.{Fault}
 use Rattle.rules.specs.declared.Reading.{Reading}
 use Rattle.rules.specs.declared.Reading.the-variants.{Row, RowShort, Unfit}
 use Rattle.rules.specs.declared.Routing.the-variants.{Sheet}
 use Rattle.rules.specs.Basic.{keep, orElse, settle, isNone}
 use Rattle.rules.specs.Row.{nodes, SamePins}
-use Rattle.rules.specs.Street.{first}
 use Rattle.rules.specs.Bits.{Below}
-use Rattle.rules.specs.Sheet.{sheet, countOf, rowOf, Placed, SheetOf}
-use Rattle.rules.specs.Judgement.{head, room, middle, tail, judge}
-use Rattle.rules.specs.Answers.{written, routing, firstSheet, reading, rowAfter, samePins, agrees}
+use Rattle.rules.specs.Sheet.{sheet, countOf, netsOf, rowOf, Placed, SheetOf}
+use Rattle.rules.specs.Judgement.{head, room, middle, tail, judge, crowded, readable}
+use Rattle.rules.specs.Answers.{routing, firstSheet, reading, samePins, agrees}
 use Rattle.rules.proofs.PinsTest.{pins-test}
-use Rattle.rules.proofs.Accepted.{keep-none, none-keep, orElse-none, none-orElse, accepted, sheet-accepted, given-pins}
+use Rattle.rules.proofs.Accepted.{keep-none, none-keep, orElse-none, none-orElse, readable-exactly, accepted, sheet-accepted, given-pins}
+use Rattle.rules.proofs.Labels.{placed-few}
 use Rattle.rules.proofs.Demand3.{Checked, first-placed}
 
 -- a chain of refusals that ends in acceptance has refused nowhere
@@ -40,67 +41,72 @@ unfit-row (some f) m e = let z : _≡_ {A = ℕ} 0 1 = cc in omega arith
 
 module _ (s row : List ℕ) where
   refusals : Option Reading
-  refusals = orElse (Option·map Unfit (head s)) (orElse (keep (room s row) RowShort) (Option·map Unfit (orElse (middle s) (tail s))))
+  refusals = orElse (Option·map Unfit (head s)) (orElse (keep (room s row) RowShort) (Option·map Unfit (orElse (middle s) (orElse (tail s) (crowded s)))))
 
   never-row : (m : ℕ) → refusals ≡ some (Row m) → ⊥
   unfolding refusals orElse keep
-  never-row m e = go (head s) (room s row) (orElse (middle s) (tail s)) e
+  never-row m e = go (head s) (room s row) (orElse (middle s) (orElse (tail s) (crowded s))) e
     where
       go : (h : Option Fault) (t : Bool) (b : Option Fault) → orElse (Option·map Unfit h) (orElse (keep t RowShort) (Option·map Unfit b)) ≡ some (Row m) → ⊥
       go (some f) t b e = let z : _≡_ {A = ℕ} 0 1 = cc in omega arith
       go none true b e = let z : _≡_ {A = ℕ} 0 1 = cc in omega arith
       go none false b e = unfit-row b m e
 
-  -- the reader takes a sheet exactly when the judgement passes and there is space for the row
-  pub read-passes : reading s row ≡ Row (countOf s) ↔ ((judge s ≡ none) × (countOf s ≤ length row))
-  unfolding reading judge room refusals settle
+  -- the reader takes a sheet exactly when its rules pass and there is space for the row
+  pub read-passes : reading s row ≡ Row (countOf s) ↔ ((readable s ≡ none) × (countOf s ≤ length row))
+  unfolding reading readable judge room refusals settle
   read-passes = (to, from)
     where
-      to : reading s row ≡ Row (countOf s) → (judge s ≡ none) × (countOf s ≤ length row)
+      to : reading s row ≡ Row (countOf s) → (readable s ≡ none) × (countOf s ≤ length row)
       to e =
           let n = not-refused refusals (countOf s) never-row e in
           let a = orElse-none (Option·map Unfit (head s)) _ n in
-          let b = orElse-none (keep (ltb (length row) (countOf s)) RowShort) _ (a .1) in (
-            none-orElse (none-unfit (head s) (a .0)) (none-unfit (orElse (middle s) (tail s)) (b .1)),
+          let b = orElse-none (keep (ltb (length row) (countOf s)) RowShort) _ (a .1) in
+          let c = orElse-none (middle s) _ (none-unfit (orElse (middle s) (orElse (tail s) (crowded s))) (b .1)) in
+          let d = orElse-none (tail s) (crowded s) (c .1) in (
+            none-orElse (none-orElse (none-unfit (head s) (a .0)) (none-orElse (c .0) (d .0))) (d .1),
             ltb-false (length row) (countOf s) (keep-none _ RowShort (b .0)),
           )
 
-      from : (judge s ≡ none) × (countOf s ≤ length row) → reading s row ≡ Row (countOf s)
+      from : (readable s ≡ none) × (countOf s ≤ length row) → reading s row ≡ Row (countOf s)
       from p =
-          let a = orElse-none (head s) (orElse (middle s) (tail s)) (p .0) in
+          let j = orElse-none (orElse (head s) (orElse (middle s) (tail s))) (crowded s) (p .0) in
+          let a = orElse-none (head s) (orElse (middle s) (tail s)) (j .0) in
+          let m = orElse-none (middle s) (tail s) (a .1) in
           let n : refusals ≡ none =
           none-orElse (ap (Option·map Unfit) (a .0))
-          (none-orElse (none-keep RowShort (le-ltb (length row) (countOf s) (p .1))) (ap (Option·map Unfit) (a .1))) in
+          (none-orElse (none-keep RowShort (le-ltb (length row) (countOf s) (p .1))) (ap (Option·map Unfit) (none-orElse (m .0) (none-orElse (m .1) (j .1))))) in
           ap (λ x. settle x (Row (countOf s))) n
 
-  -- demand 2: a sheet, with space lent for its row, is accepted exactly when it is the sheet of some row's placing
-  pub read-exactly : Below 256 s → countOf s ≤ length row → reading s row ≡ Row (countOf s) ↔ SheetOf s
+  -- demand 2: a sheet, with space lent for its row, is accepted exactly when it is the sheet of some row's placing and has at most 255 nets
+  pub read-exactly : Below 256 s → countOf s ≤ length row → reading s row ≡ Row (countOf s) ↔ (SheetOf s × (netsOf s ≤ 255))
   read-exactly b h =
       (λ e. accepted s b .0 (read-passes .0 e .0), λ x. read-passes .1 (accepted s b .1 x, h))
 
--- the agreement test says yes exactly when the sheet passes and joins the row's pins
-pub agrees-exactly : (row s : List ℕ) → agrees row s ≡ true ↔ ((judge s ≡ none) × SamePins row (rowOf s))
+-- the agreement test says yes exactly when the reader's rules pass and the sheet has the row's pins
+pub agrees-exactly : (row s : List ℕ) → agrees row s ≡ true ↔ ((readable s ≡ none) × SamePins row (rowOf s))
 unfolding agrees isNone
-agrees-exactly row s = (to (judge s) refl, from)
+agrees-exactly row s = (to (readable s) refl, from)
   where
-    to : (j : Option Fault) → judge s ≡ j → isNone j && samePins row (rowOf s) ≡ true → (judge s ≡ none) × SamePins row (rowOf s)
+    to : (j : Option Fault) → readable s ≡ j → isNone j && samePins row (rowOf s) ≡ true → (readable s ≡ none) × SamePins row (rowOf s)
     to none e h = (e, pins-test row (rowOf s) .0 h)
     to (some f) e h = let z : _≡_ {A = ℕ} 0 1 = cc in absurd (omega arith)
 
-    from : (judge s ≡ none) × SamePins row (rowOf s) → isNone (judge s) && samePins row (rowOf s) ≡ true
+    from : (readable s ≡ none) × SamePins row (rowOf s) → isNone (readable s) && samePins row (rowOf s) ≡ true
     from p = rw (p .0) (pins-test row (rowOf s) .1 (p .1))
 
 -- reading undoes making a sheet: a placed row's sheet passes, gives back the row's pins, and agrees with the row
-module _ (row : List ℕ) (ku kl : ℕ) (ps : List ℕ) (p : Placed row ku kl ps) where
+module _ (row : List ℕ) (ku kl : ℕ) (ps : List ℕ) (b : Below 256 row) (p : Placed row ku kl ps) where
   own : SheetOf (sheet ku kl (nodes row) ps)
   own = record { row = row; ku = ku; kl = kl; ps = ps; placed = p; is = refl }
 
-  pub own-passes : judge (sheet ku kl (nodes row) ps) ≡ none
-  own-passes = sheet-accepted (sheet ku kl (nodes row) ps) own
+  pub own-passes : readable (sheet ku kl (nodes row) ps) ≡ none
+  own-passes =
+      readable-exactly (sheet ku kl (nodes row) ps) .1 (sheet-accepted (sheet ku kl (nodes row) ps) own, placed-few row ku kl ps b p)
 
   pub own-pins : SamePins row (rowOf (sheet ku kl (nodes row) ps))
   unfolding own
-  own-pins = given-pins (sheet ku kl (nodes row) ps) own
+  own-pins = given-pins (sheet ku kl (nodes row) ps) own (placed-few row ku kl ps b p)
 
   pub own-agrees : agrees row (sheet ku kl (nodes row) ps) ≡ true
   own-agrees = agrees-exactly row (sheet ku kl (nodes row) ps) .1 (own-passes, own-pins)
@@ -108,10 +114,10 @@ module _ (row : List ℕ) (ku kl : ℕ) (ps : List ℕ) (p : Placed row ku kl ps
 -- the same of the sheet that the router gives
 module _ (row : List ℕ) (ku kl : ℕ) (work out : List ℕ) (b : Below 256 row) (checked : Checked row ku kl work out)
     (got : routing row ku kl work out ≡ Sheet (length row)) where
-  pub routed-pins : (judge (firstSheet row ku kl) ≡ none) × SamePins row (rowOf (firstSheet row ku kl))
+  pub routed-pins : (readable (firstSheet row ku kl) ≡ none) × SamePins row (rowOf (firstSheet row ku kl))
   routed-pins =
-      let f = first-placed row ku kl work out b checked got in
-      rw (f .2) (own-passes row ku kl (f .0) (f .1), own-pins row ku kl (f .0) (f .1))
+      let f = first-placed row ku kl work out checked got in
+      rw (f .2) (own-passes row ku kl (f .0) b (f .1), own-pins row ku kl (f .0) b (f .1))
 
   pub routed-agrees : agrees row (firstSheet row ku kl) ≡ true
   routed-agrees = agrees-exactly row (firstSheet row ku kl) .1 routed-pins

@@ -1,29 +1,27 @@
 -- Demand 3 of the letter, on the router's answer: a row that passes checks 1 to 5 gets the first placing's sheet, or 6 where it has no placing.
 use mathlib.Core.Path.{_≡_, refl, sym, ap, ap₂, _∙_}
-use mathlib.Core.Bool.{Bool, true, false, not, _||_}
+use mathlib.Core.Bool.{false, not}
 use mathlib.Core.List.{List, []}
-use mathlib.Core.Logic.{_↔_, _⊎_}
+use mathlib.Core.Logic.{_↔_}
 use mathlib.Core.Option.{Option, none, some}
 use Prim.Native.Nat.{ℕ, suc, _*_, _≤_, _<_}
 use native.Mathlib.Omega.{arith}
 use lib.ListN.{length}
 use lib.Dec.{ltb}
 use borrow.Author.Tests.{not-false, ltb-false}
-use Rattle.rules.specs.declared.Routing.{Routing}
 use Rattle.rules.specs.declared.Routing.the-variants.{Sheet, RowLength, Tracks, Lone, WorkShort, SheetShort, Stuck}
-use Rattle.rules.specs.Basic.{least, keep, orElse, settle}
-use Rattle.rules.specs.Row.{lone, Node, nodes, SamePins}
+use Rattle.rules.specs.Basic.{least, keep, settle}
+use Rattle.rules.specs.Row.{lone, nodes, SamePins}
 use Rattle.rules.specs.Street.{Placing, IsFirst, StopsAt, first, failing}
-use Rattle.rules.specs.Bits.{Below}
 use Rattle.rules.specs.Sheet.{takes, size, sheet, Placed}
 use Rattle.rules.specs.Judgement.{wrongCount}
 use Rattle.rules.specs.Answers.{firstLone, refusal, outcome, routing, firstSheet, written, sheetAfter}
-use Rattle.rules.proofs.Least.{least-le, least-before}
+use Rattle.rules.proofs.Least.{least-before}
 use Rattle.rules.proofs.Search.{first-some, first-none, first-unique}
 use Rattle.rules.proofs.Failing.{stops-unique}
 use Rattle.rules.proofs.Pins.{same-sheet}
 use Rattle.rules.proofs.NoPlacing.{stuck-stops, stops-stuck}
-use Rattle.rules.proofs.Accepted.{keep-none, orElse-none, takes-le, count-within, length-nodes, SameFields, sheets-fields, same-sheet-pins}
+use Rattle.rules.proofs.Accepted.{keep-none, orElse-none, takes-le, count-within, length-nodes, sheets-fields, same-sheet-pins}
 
 -- a row passes checks 1 to 5 under Ku and Kl, with buffers of these lengths
 abbrev pub Checked : (row : List ℕ) (ku kl : ℕ) (work out : List ℕ) → Type 0
@@ -121,18 +119,18 @@ module _ (row : List ℕ) (ku kl : ℕ) (work out : List ℕ) where
         ∙ rw (first-unique ku kl (nodes row) ps f)
 
 -- a row that gets a sheet is placed, and the sheet is that of its first placing
-pub first-placed : (row : List ℕ) (ku kl : ℕ) (work out : List ℕ) → Below 256 row → Checked row ku kl work out → routing row ku kl work out ≡ Sheet (length row)
+pub first-placed : (row : List ℕ) (ku kl : ℕ) (work out : List ℕ) → Checked row ku kl work out → routing row ku kl work out ≡ Sheet (length row)
     → (ps : List ℕ) × Placed row ku kl ps × (firstSheet row ku kl ≡ sheet ku kl (nodes row) ps)
-first-placed row ku kl work out b c e = go (answered row ku kl work out c)
+first-placed row ku kl work out c e = go (answered row ku kl work out c)
   where
     go : Answered row ku kl work out c → (ps : List ℕ) × Placed row ku kl ps × (firstSheet row ku kl ≡ sheet ku kl (nodes row) ps)
     go (placed ps f a s) =
         let h = checked-fit row ku kl work out c in
-        (ps, record { bytes-alone = b; least = h .least; most = h .most; whole = h .whole; upper = h .upper; lower = h .lower; placing = f .placing }, s)
+        (ps, record { least = h .least; most = h .most; whole = h .whole; upper = h .upper; lower = h .lower; placing = f .placing }, s)
     go (stuck i n s a) = let z : _≡_ {A = ℕ} 0 1 = cc in absurd (omega arith)
 
--- two rows that get sheets get equal ones exactly when they join the same pins under the same track counts
-module _ (row row′ : List ℕ) (ku kl ku′ kl′ : ℕ) (work out work′ out′ : List ℕ) (b : Below 256 row) (b′ : Below 256 row′)
+-- two rows that get sheets get equal ones exactly when they have equal joins and equal blanks under the same track counts
+module _ (row row′ : List ℕ) (ku kl ku′ kl′ : ℕ) (work out work′ out′ : List ℕ)
     (checked : Checked row ku kl work out) (checked′ : Checked row′ ku′ kl′ work′ out′)
     (got : routing row ku kl work out ≡ Sheet (length row)) (got′ : routing row′ ku′ kl′ work′ out′ ≡ Sheet (length row′)) where
   pub equal-sheets : firstSheet row ku kl ≡ firstSheet row′ ku′ kl′ ↔ (SamePins row row′ × (ku ≡ ku′) × (kl ≡ kl′))
@@ -141,8 +139,8 @@ module _ (row row′ : List ℕ) (ku kl ku′ kl′ : ℕ) (work out work′ out
     where
       to : firstSheet row ku kl ≡ firstSheet row′ ku′ kl′ → SamePins row row′ × (ku ≡ ku′) × (kl ≡ kl′)
       to e =
-          let p = first-placed row ku kl work out b checked got in
-          let q = first-placed row′ ku′ kl′ work′ out′ b′ checked′ got′ in
+          let p = first-placed row ku kl work out checked got in
+          let q = first-placed row′ ku′ kl′ work′ out′ checked′ got′ in
           let s : sheet ku kl (nodes row) (p .0) ≡ sheet ku′ kl′ (nodes row′) (q .0) = sym (p .2) ∙ e ∙ q .2 in
           let f = sheets-fields row row′ ku kl ku′ kl′ (p .0) (q .0) (p .1) (q .1) s in
           (same-sheet-pins row row′ ku kl ku′ kl′ (p .0) (q .0) (p .1) (q .1) s, f .upper, f .lower)

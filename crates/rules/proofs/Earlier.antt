@@ -1,7 +1,8 @@
 -- Reading order is strict, and goes by what follows where two lists begin alike.
-use mathlib.Core.Path.{_≡_}
+use mathlib.Core.Path.{_≡_, _∙_}
 use mathlib.Core.List.{List, _∷_}
-use Prim.Native.Nat.{ℕ}
+use Prim.Native.Nat.{ℕ, _<_}
+use lib.ListN.{length}
 use native.Mathlib.Omega.{arith}
 use Rattle.rules.specs.Street.{Earlier, here, there}
 
@@ -22,3 +23,14 @@ pub earlier-map : {p q : ℕ} {ps qs cs ds : List ℕ} → (p ≡ q → Earlier 
     Earlier (p ∷ ps) (q ∷ qs) → Earlier (p ∷ cs) (q ∷ ds)
 earlier-map f (here l) = here l
 earlier-map f (there e r) = there e (f e r)
+
+-- both lists have a place where they differ
+pub earlier-lengths : {ps qs : List ℕ} → Earlier ps qs → (0 < length ps) × (0 < length qs)
+earlier-lengths (here l) = omega arith
+earlier-lengths (there e r) = omega arith
+
+pub earlier-transitive : {ps qs rs : List ℕ} → Earlier ps qs → Earlier qs rs → Earlier ps rs
+earlier-transitive (here {p = p} a) (here {q = r} b) = here {p = p} {q = r} (omega arith)
+earlier-transitive (here {p = p} a) (there {q = r} e t) = here {p = p} {q = r} (omega arith)
+earlier-transitive (there {p = p} e s) (here {q = r} b) = here {p = p} {q = r} (omega arith)
+earlier-transitive (there e s) (there e′ t) = there (e ∙ e′) (earlier-transitive s t)

@@ -17,6 +17,10 @@ pub mod GivenBack
 pub mod SheetFields
 pub mod Accepted
 pub mod Demand3
+pub mod Labels
 pub mod Demand2
+pub mod Blanks
+pub mod Bare
+pub mod Without
 pub mod Levels
 pub mod Specimens

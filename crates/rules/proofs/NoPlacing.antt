@@ -1,15 +1,14 @@
 -- A row without lone labels has no placing exactly when one of its nodes is the failing node.
-use mathlib.Core.Path.{_≡_, refl, sym, ap, _∙_}
-use mathlib.Core.Bool.{Bool, true, false}
+use mathlib.Core.Path.{_≡_, ap, _∙_}
+use mathlib.Core.Bool.{false}
 use mathlib.Core.List.{List, []}
 use mathlib.Core.Logic.{_↔_, _⊎_, inl, inr}
 use mathlib.Core.Option.{some}
-use Prim.Native.Nat.{ℕ, suc, _≤_, _<_}
+use Prim.Native.Nat.{ℕ, suc, _<_}
 use native.Mathlib.Nat.{eq-or-lt-of-le}
-use native.Mathlib.Omega.{arith}
-use lib.ListN.{length, take}
+use lib.ListN.{length}
 use Rattle.rules.specs.Row.{lone, nodes}
-use Rattle.rules.specs.Street.{run, Placing, Passes, StopsAt, failing}
+use Rattle.rules.specs.Street.{Placing, Passes, StopsAt, failing}
 use Rattle.rules.proofs.Open.{ends-empty}
 use Rattle.rules.proofs.Failing.{passes-take, failing-le, failing-stops, failing-passes}
 

@@ -1,21 +1,21 @@
 -- An order that a row's nodes lead to holds open nets alone, each once; so it is empty after the last node of a row without lone labels.
-use mathlib.Core.Path.{_≡_, refl, sym, ap, ap₂, _∙_}
+use mathlib.Core.Path.{_≡_, refl, sym, ap, _∙_}
 use mathlib.Core.Bool.{Bool, true, false, not, _&&_}
 use mathlib.Core.List.{List, [], _∷_}
 use mathlib.Core.Logic.{_⊎_, inl, inr}
-use mathlib.Core.Option.{Option, none, some}
+use mathlib.Core.Option.{some}
 use Prim.Native.Nat.{ℕ, zero, suc, _+_, _-_, _≤_, _<_}
 use native.Mathlib.Nat.{le-of-suc-le-suc, not-suc-le-zero, zero-add, eq-zero-or-pos}
 use native.Mathlib.Omega.{arith}
 use lib.ListN.{length, getD, drop, length-drop}
 use lib.Seq.{getD-drop}
-use lib.Dec.{T, eqb, ltb, eqb→eq}
-use borrow.Author.Tests.{eqb-true, eqb-false, eq-eqb, ne-eqb, ltb-true, ltb-false, le-ltb, lt-ltb}
-use Rattle.rules.specs.Basic.{put, cut, tabulate, keep, andThen}
-use Rattle.rules.specs.Row.{before, has, home, later, lone, Kind, B, M, E, Node, node, nodeAt, nodes, kindOf}
-use Rattle.rules.specs.Street.{step, run, stands, fits, counted, kind, next}
-use Rattle.rules.proofs.Fits.{Fits, fits→}
-use Rattle.rules.proofs.Pins.{at-before, before-found, home-le, label-home}
+use lib.Dec.{T, eqb, eqb→eq}
+use borrow.Author.Tests.{eqb-true, eqb-false, eq-eqb, ne-eqb, ltb-true, lt-ltb}
+use Rattle.rules.specs.Basic.{pick, put, cut, tabulate, keep, andThen}
+use Rattle.rules.specs.Row.{before, has, blank, home, later, lone, N, Node, node, nodeAt, nodes, kindOf}
+use Rattle.rules.specs.Street.{step, run, stands, last, fitsAt, counted, kind, next}
+use Rattle.rules.proofs.Fits.{FitsAt, fitsAt→}
+use Rattle.rules.proofs.Pins.{at-before, before-found, label-home}
 
 -- 1 where a test passes
 unfoldable pub one : Bool → ℕ
@@ -80,11 +80,12 @@ ahead-later row i a =
     let h : before (getD row i 0) (drop (suc i) row) ≤ k = rw e at (before-found (drop (suc i) row) k (omega (arith, length-drop (suc i) row))) in
     lt-ltb (before (getD row i 0) (drop (suc i) row)) (length (drop (suc i) row)) (omega (arith, length-drop (suc i) row))
 
--- net x stands t times in an order after i nodes: at most once, and then it began before node i and goes on at or after it
+-- net x stands t times in an order after i nodes: at most once, and then it is no blank, began before node i and goes on at or after it
 pub record Stays (row : List ℕ) (i x t : ℕ) : Type 0 where
   pub once : t ≤ 1
   pub past : 0 < t → x < i
   pub own : 0 < t → home row x ≡ x
+  pub named : 0 < t → blank row x ≡ false
   pub ahead : 0 < t → Ahead row i x
 
 -- an order after i nodes holds open nets alone, each once
@@ -100,23 +101,24 @@ onward-of row i x a n = go (eqb i (a .at)) refl
     go false e = record { at = a .at; from = omega (arith, eqb-false i (a .at) e); within = a .within; label = a .label }
 
 absent : (row : List ℕ) (i x : ℕ) → Stays row i x 0
-absent row i x = record { once = omega arith; past = λ t. absurd (omega arith); own = λ t. absurd (omega arith); ahead = λ t. absurd (omega arith) }
+absent row i x = record { once = omega arith; past = λ t. absurd (omega arith); own = λ t. absurd (omega arith); named = λ t. absurd (omega arith); ahead = λ t. absurd (omega arith) }
 
 module _ (row : List ℕ) (i : ℕ) (h : i < length row) (o : List ℕ) (held : Held row i o) where
   -- another net stays as it is after node i
-  others : (x : ℕ) → (home row i ≡ x → ⊥) → Stays row (suc i) x (times x o)
+  others : (x : ℕ) → (0 < times x o → home row i ≡ x → ⊥) → Stays row (suc i) x (times x o)
   unfolding home
   others x n =
       record {
         once = held x .once;
         past = λ t. omega (arith, held x .past t);
         own = held x .own;
-        ahead = λ t. onward-of row i x (held x .ahead t) (λ e. n (ap (λ y. before y row) e ∙ held x .own t));
+        named = held x .named;
+        ahead = λ t. onward-of row i x (held x .ahead t) (λ e. n t (ap (λ y. before y row) e ∙ held x .own t));
       }
 
-  begins : home row i ≡ i → later row i ≡ true → (k : ℕ) → Held row (suc i) (put k (home row i) o)
+  begins : blank row i ≡ false → home row i ≡ i → later row i ≡ true → (k : ℕ) → Held row (suc i) (put k (home row i) o)
   unfolding one
-  begins e l k x = go (eqb (home row i) x) refl
+  begins n e l k x = go (eqb (home row i) x) refl
     where
       fresh : (y : ℕ) → y ≡ i → (times y o ≡ 0) ⊎ (0 < times y o) → one true + times y o ≤ 1
       fresh y y≡ (inl z) = omega arith
@@ -126,8 +128,8 @@ module _ (row : List ℕ) (i : ℕ) (h : i < length row) (o : List ℕ) (held : 
       go true q =
           let x≡ : x ≡ i = sym (eqb-true (home row i) x q) ∙ e in
           rw (times-put x k (home row i) o, q)
-          (record { once = fresh x x≡ (eq-zero-or-pos (times x o)); past = λ t. omega arith; own = λ t. ap (home row) x≡ ∙ e ∙ sym x≡; ahead = λ t. rw x≡ (later-ahead row i l) })
-      go false q = rw (times-put x k (home row i) o, one-other x (home row i) (eqb-false (home row i) x q), zero-add (times x o)) (others x (eqb-false (home row i) x q))
+          (record { once = fresh x x≡ (eq-zero-or-pos (times x o)); past = λ t. omega arith; own = λ t. ap (home row) x≡ ∙ e ∙ sym x≡; named = λ t. ap (blank row) x≡ ∙ n; ahead = λ t. rw x≡ (later-ahead row i l) })
+      go false q = rw (times-put x k (home row i) o, one-other x (home row i) (eqb-false (home row i) x q), zero-add (times x o)) (others x (λ t. eqb-false (home row i) x q))
 
   meets : later row i ≡ true → Held row (suc i) o
   meets l x = go (eqb (home row i) x) refl
@@ -139,6 +141,7 @@ module _ (row : List ℕ) (i : ℕ) (h : i < length row) (o : List ℕ) (held : 
             once = held x .once;
             past = λ t. omega (arith, held x .past t);
             own = held x .own;
+            named = held x .named;
             ahead = λ t.
                 record {
                   at = a .at;
@@ -147,7 +150,7 @@ module _ (row : List ℕ) (i : ℕ) (h : i < length row) (o : List ℕ) (held : 
                   label = a .label ∙ sym (label-home row i h) ∙ ap (λ k. getD row k 0) (eqb-true (home row i) x q);
                 };
           }
-      go false q = others x (eqb-false (home row i) x q)
+      go false q = others x (λ t. eqb-false (home row i) x q)
 
   ends : before (home row i) o < length o → Held row (suc i) (cut (before (home row i) o) o)
   unfolding one
@@ -165,21 +168,32 @@ module _ (row : List ℕ) (i : ℕ) (h : i < length row) (o : List ℕ) (held : 
           rw z (absent row (suc i) x)
       go false q =
           let z : times x (cut k o) ≡ times x o = omega (arith, rw q at taken) in
-          rw z (others x (eqb-false (home row i) x q))
+          rw z (others x (λ t. eqb-false (home row i) x q))
+
+  -- a blank is no net's
+  passes : blank row i ≡ true → Held row (suc i) o
+  unfolding blank
+  passes e x =
+      others x (λ t q. eqb-false (getD row x 0) 255 (held x .named t)
+      (ap (λ k. getD row k 0) (sym q) ∙ label-home row i h ∙ eqb-true (getD row i 0) 255 e))
 
   -- one node on, in a row where it is not lone
-  pub held-next : lone row i ≡ false → (p : ℕ) → T (stands (nodeAt row i) o p) → p ≤ counted (kind (nodeAt row i)) (length o)
+  pub held-next : lone row i ≡ false → (p : ℕ) → T (stands (nodeAt row i) o p) → p ≤ last (kind (nodeAt row i)) (counted (kind (nodeAt row i)) (length o))
       → Held row (suc i) (next (nodeAt row i) o p)
-  unfolding nodeAt lone kindOf stands counted kind next
-  held-next n p = go (eqb (home row i) i) (later row i) refl refl n
+  unfolding nodeAt lone kindOf pick stands last counted kind next
+  held-next n p = go (blank row i) (eqb (home row i) i) (later row i) refl refl refl n
     where
-      go : (f l : Bool) → eqb (home row i) i ≡ f → later row i ≡ l → f && not l ≡ false
-          → T (stands (node (kindOf f l) (home row i)) o p) → p ≤ counted (kind (node (kindOf f l) (home row i))) (length o)
-          → Held row (suc i) (next (node (kindOf f l) (home row i)) o p)
-      go true true ef el n s b = begins (eqb-true (home row i) i ef) el (p - 1)
-      go true false ef el n s b = let z : _≡_ {A = ℕ} 0 1 = cc in absurd (omega arith)
-      go false true ef el n s b = meets el
-      go false false ef el n s b =
+      at : (t f l : Bool) → Node
+      at t f l = pick t (node N i) (node (kindOf f l) (home row i))
+
+      go : (t f l : Bool) → blank row i ≡ t → eqb (home row i) i ≡ f → later row i ≡ l → not t && f && not l ≡ false
+          → T (stands (at t f l) o p) → p ≤ last (kind (at t f l)) (counted (kind (at t f l)) (length o))
+          → Held row (suc i) (next (at t f l) o p)
+      go true f l et ef el n s b = passes et
+      go false true true et ef el n s b = begins et (eqb-true (home row i) i ef) el (p - 1)
+      go false true false et ef el n s b = let z : _≡_ {A = ℕ} 0 1 = cc in absurd (omega arith)
+      go false false true et ef el n s b = meets el
+      go false false false et ef el n s b =
           let e : p ≡ suc (before (home row i) o) = eqb→eq p (suc (before (home row i) o)) s in
           let k : p - 1 ≡ before (home row i) o = omega arith in
           rw k (ends (omega arith))
@@ -187,17 +201,17 @@ module _ (row : List ℕ) (i : ℕ) (h : i < length row) (o : List ℕ) (held : 
 -- a run to the order w goes on from its first node to w
 pub record Onto (ku kl : ℕ) (n : Node) (ns : List Node) (o : List ℕ) (p : ℕ) (ps w : List ℕ) : Type 0 where
   pub stood : T (stands n o p)
-  pub fitted : Fits ku kl p (counted (kind n) (length o))
+  pub fitted : FitsAt (kind n) ku kl p (counted (kind n) (length o))
   pub rest : run ku kl ns (next n o p) ps ≡ some w
 
 pub onto : (ku kl : ℕ) (n : Node) (ns : List Node) (o : List ℕ) (p : ℕ) (ps w : List ℕ) → run ku kl (n ∷ ns) o (p ∷ ps) ≡ some w
     → Onto ku kl n ns o p ps w
 unfolding run step keep andThen
-onto ku kl n ns o p ps w e = go (stands n o p) (fits ku kl p (counted (kind n) (length o))) refl refl e
+onto ku kl n ns o p ps w e = go (stands n o p) (fitsAt (kind n) ku kl p (counted (kind n) (length o))) refl refl e
   where
-    go : (s f : Bool) → stands n o p ≡ s → fits ku kl p (counted (kind n) (length o)) ≡ f
+    go : (s f : Bool) → stands n o p ≡ s → fitsAt (kind n) ku kl p (counted (kind n) (length o)) ≡ f
         → andThen (keep (s && f) (next n o p)) (λ o′. run ku kl ns o′ ps) ≡ some w → Onto ku kl n ns o p ps w
-    go true true es ef e = record { stood = rw es tt; fitted = fits→ ku kl p (counted (kind n) (length o)) (rw ef tt); rest = e }
+    go true true es ef e = record { stood = rw es tt; fitted = fitsAt→ ku kl p (counted (kind n) (length o)) (kind n) (rw ef tt); rest = e }
     go true false es ef e = let z : _≡_ {A = ℕ} 0 1 = cc in absurd (omega arith)
     go false f es ef e = let z : _≡_ {A = ℕ} 0 1 = cc in absurd (omega arith)
 

@@ -1,18 +1,18 @@
--- Two rows join the same pins exactly when the street rules see the same nodes in them.
+-- Two rows join the same pins and have the same blanks exactly when the street rules see the same nodes in them.
 use mathlib.Core.Path.{_≡_, refl, sym, ap, ap₂, _∙_}
 use mathlib.Core.Bool.{Bool, true, false, not, _&&_}
 use mathlib.Core.List.{List, [], _∷_}
 use mathlib.Core.Logic.{_↔_}
 use Prim.Native.Nat.{ℕ, zero, suc, _+_, _-_, _≤_, _<_}
-use native.Mathlib.Nat.{le-of-suc-le-suc, not-suc-le-zero, add-suc, suc-add}
+use native.Mathlib.Nat.{le-of-suc-le-suc, not-suc-le-zero}
 use native.Mathlib.Omega.{arith}
 use lib.ListN.{length, getD, drop, length-drop}
 use lib.Seq.{getD-drop}
 use lib.Dec.{eqb, ltb}
 use borrow.Author.Tests.{eqb-true, eqb-false, eq-eqb, ne-eqb}
 use Rattle.rules.specs.Basic.{pick, tabulate, least, settle}
-use Rattle.rules.specs.Row.{before, has, joined, home, later, Node, node, nodeAt, nodes, kindOf, lone, SamePins}
-use Rattle.rules.specs.Street.{first, failing}
+use Rattle.rules.specs.Row.{before, has, blank, joined, home, later, Kind, B, M, E, N, Node, node, nodeAt, nodes, kindOf, lone, SamePins}
+use Rattle.rules.specs.Street.{kind, first}
 use Rattle.rules.specs.Sheet.{sheet}
 use Rattle.rules.specs.Answers.{routing, firstLone, refusal, outcome, firstSheet}
 
@@ -78,26 +78,30 @@ pub label-home : (row : List ℕ) (i : ℕ) → i < length row → getD row (hom
 unfolding home
 label-home row i h = at-before (getD row i 0) row (omega (arith, before-found row i h))
 
--- nodes are in one net exactly where their nets' first nodes are one
-pub joined-home : (row : List ℕ) (i j : ℕ) → i < length row → j < length row → joined row i j ≡ eqb (home row i) (home row j)
-unfolding joined home
-joined-home row i j hi hj = go (eqb (getD row i 0) (getD row j 0)) refl
+-- nodes carry one label
+abbrev pub oneLabel : List ℕ → ℕ → ℕ → Bool
+oneLabel row i j = eqb (getD row i 0) (getD row j 0)
+
+-- they do exactly where the first nodes with their labels are one
+pub label-homes : (row : List ℕ) (i j : ℕ) → i < length row → j < length row → oneLabel row i j ≡ eqb (home row i) (home row j)
+unfolding home
+label-homes row i j hi hj = go (oneLabel row i j) refl
   where
-    go : (t : Bool) → eqb (getD row i 0) (getD row j 0) ≡ t → eqb (getD row i 0) (getD row j 0) ≡ eqb (home row i) (home row j)
+    go : (t : Bool) → oneLabel row i j ≡ t → oneLabel row i j ≡ eqb (home row i) (home row j)
     go true e = e ∙ sym (eq-eqb (home row i) (home row j) (ap (λ x. before x row) (eqb-true (getD row i 0) (getD row j 0) e)))
     go false e =
         e ∙ sym (ne-eqb (home row i) (home row j)
         (λ h. eqb-false (getD row i 0) (getD row j 0) e (sym (label-home row i hi) ∙ ap (λ k. getD row k 0) h ∙ label-home row j hj)))
 
--- ---- home and later from joined nodes alone
+-- ---- home and later from one label
 
-pub home-least : (row : List ℕ) (i : ℕ) → home row i ≡ least (λ j. joined row j i) (length row)
-unfolding home joined
+pub home-least : (row : List ℕ) (i : ℕ) → home row i ≡ least (λ j. oneLabel row j i) (length row)
+unfolding home
 home-least row i = before-foundast (getD row i 0) row
 
 pub later-least : (row : List ℕ) (i : ℕ)
-    → later row i ≡ ltb (least (λ j. joined row (suc i + j) i) (length row - suc i)) (length row - suc i)
-unfolding later has joined
+    → later row i ≡ ltb (least (λ j. oneLabel row (suc i + j) i) (length row - suc i)) (length row - suc i)
+unfolding later has
 later-least row i =
     ap₂ (λ a b. ltb a b)
     (before-foundast (getD row i 0) (drop (suc i) row)
@@ -108,56 +112,125 @@ later-least row i =
 
 -- ---- the theorem
 
+blank-label : (row : List ℕ) (i : ℕ) → blank row i ≡ true → getD row i 0 ≡ 255
+unfolding blank
+blank-label row i e = eqb-true (getD row i 0) 255 e
+
+not-blank : (row : List ℕ) (i : ℕ) → blank row i ≡ false → getD row i 0 ≡ 255 → ⊥
+unfolding blank
+not-blank row i e = eqb-false (getD row i 0) 255 e
+
+-- a kind that is a blank's
+unfoldable pub unjoined : Kind → Bool
+unjoined B = false
+unjoined M = false
+unjoined E = false
+unjoined N = true
+
+-- two nodes are in one net, by what the street rules see of them
+one-net : Node → Node → Bool
+one-net (node k x) (node l y) = not (unjoined k) && eqb x y
+
+unjoined-kindOf : (f l : Bool) → unjoined (kindOf f l) ≡ false
+unfolding unjoined kindOf
+unjoined-kindOf true l = refl
+unjoined-kindOf false true = refl
+unjoined-kindOf false false = refl
+
+-- what a node is, by whether it is blank
+pub node-blank : (row : List ℕ) (i : ℕ) → blank row i ≡ true → nodeAt row i ≡ node N i
+unfolding nodeAt pick
+node-blank row i e = rw e
+
+pub node-net : (row : List ℕ) (i : ℕ) → blank row i ≡ false → nodeAt row i ≡ node (kindOf (eqb (home row i) i) (later row i)) (home row i)
+unfolding nodeAt pick
+node-net row i e = rw e
+
+pub blank-node : (row : List ℕ) (i : ℕ) → blank row i ≡ unjoined (kind (nodeAt row i))
+unfolding nodeAt pick kind unjoined
+blank-node row i = go (blank row i)
+  where
+    go : (t : Bool) → t ≡ unjoined (kind (pick t (node N i) (node (kindOf (eqb (home row i) i) (later row i)) (home row i))))
+    go true = refl
+    go false = sym (unjoined-kindOf (eqb (home row i) i) (later row i))
+
+-- nodes are in one net exactly where the street rules see one
+joined-nodes : (row : List ℕ) (i j : ℕ) → i < length row → j < length row → joined row i j ≡ one-net (nodeAt row i) (nodeAt row j)
+unfolding joined nodeAt pick unjoined one-net
+joined-nodes row i j hi hj = go (blank row i) (blank row j) refl refl
+  where
+    k : (n : ℕ) → Kind
+    k n = kindOf (eqb (home row n) n) (later row n)
+
+    go : (t u : Bool) → blank row i ≡ t → blank row j ≡ u
+        → not t && oneLabel row i j ≡ one-net (pick t (node N i) (node (k i) (home row i))) (pick u (node N j) (node (k j) (home row j)))
+    go true true e f = refl
+    go true false e f = refl
+    go false true e f =
+        let n : getD row j 0 ≡ 255 = blank-label row j f in
+        let a : oneLabel row i j ≡ false = ne-eqb (getD row i 0) (getD row j 0) (λ q. not-blank row i e (q ∙ n)) in
+        let b : eqb (home row i) j ≡ false =
+        ne-eqb (home row i) j (λ q. not-blank row i e (sym (label-home row i hi) ∙ ap (λ m. getD row m 0) q ∙ n)) in
+        rw (unjoined-kindOf (eqb (home row i) i) (later row i), b) a
+    go false false e f = rw (unjoined-kindOf (eqb (home row i) i) (later row i)) (label-homes row i j hi hj)
+
 module _ (row row′ : List ℕ) where
+  -- rows with the same pins carry one label at the same nodes
+  pub same-label : SamePins row row′ → (i j : ℕ) → i < length row → j < length row → oneLabel row i j ≡ oneLabel row′ i j
+  unfolding joined
+  same-label s i j hi hj = go (blank row i) (blank row j) refl refl
+    where
+      go : (t u : Bool) → blank row i ≡ t → blank row j ≡ u → oneLabel row i j ≡ oneLabel row′ i j
+      go false u e f = rw (e, sym (s .blanks i hi) ∙ e) at (s .joins i j hi hj)
+      go true true e f =
+          eq-eqb (getD row i 0) (getD row j 0) (blank-label row i e ∙ sym (blank-label row j f))
+          ∙ sym (eq-eqb (getD row′ i 0) (getD row′ j 0) (blank-label row′ i (sym (s .blanks i hi) ∙ e) ∙ sym (blank-label row′ j (sym (s .blanks j hj) ∙ f))))
+      go true false e f =
+          apart row e f ∙ sym (apart row′ (sym (s .blanks i hi) ∙ e) (sym (s .blanks j hj) ∙ f))
+        where
+          apart : (r : List ℕ) → blank r i ≡ true → blank r j ≡ false → oneLabel r i j ≡ false
+          apart r e f = ne-eqb (getD r i 0) (getD r j 0) (λ q. not-blank r j f (sym q ∙ blank-label r i e))
+
   pub same-home : SamePins row row′ → (i : ℕ) → i < length row → home row i ≡ home row′ i
   same-home s i h =
       home-least row i
-      ∙ least-cong (λ j. joined row j i) (λ j. joined row′ j i) (length row) (λ j l. s .joins j i l h)
-      ∙ ap (λ n. least (λ j. joined row′ j i) n) (s .count)
+      ∙ least-cong (λ j. oneLabel row j i) (λ j. oneLabel row′ j i) (length row) (λ j l. same-label s j i l h)
+      ∙ ap (λ n. least (λ j. oneLabel row′ j i) n) (s .count)
       ∙ sym (home-least row′ i)
 
   pub same-later : SamePins row row′ → (i : ℕ) → i < length row → later row i ≡ later row′ i
   same-later s i h =
       later-least row i
       ∙ ap (λ k. ltb k (length row - suc i))
-      (least-cong (λ j. joined row (suc i + j) i) (λ j. joined row′ (suc i + j) i) (length row - suc i)
-      (λ j l. s .joins (suc i + j) i (omega arith) h))
-      ∙ ap (λ n. ltb (least (λ j. joined row′ (suc i + j) i) (n - suc i)) (n - suc i)) (s .count)
+      (least-cong (λ j. oneLabel row (suc i + j) i) (λ j. oneLabel row′ (suc i + j) i) (length row - suc i)
+      (λ j l. same-label s (suc i + j) i (omega arith) h))
+      ∙ ap (λ n. ltb (least (λ j. oneLabel row′ (suc i + j) i) (n - suc i)) (n - suc i)) (s .count)
       ∙ sym (later-least row′ i)
 
   same-node : SamePins row row′ → (i : ℕ) → i < length row → nodeAt row i ≡ nodeAt row′ i
   unfolding nodeAt
-  same-node s i h = ap₂ (λ a b. node (kindOf (eqb a i) b) a) (same-home s i h) (same-later s i h)
+  same-node s i h = cc (s .blanks i h, same-home s i h, same-later s i h)
 
   same-lone : SamePins row row′ → (i : ℕ) → i < length row → lone row i ≡ lone row′ i
   unfolding lone
-  same-lone s i h = ap₂ (λ a b. eqb a i && not b) (same-home s i h) (same-later s i h)
+  same-lone s i h = cc (s .blanks i h, same-home s i h, same-later s i h)
 
   pub same-nodes : SamePins row row′ → nodes row ≡ nodes row′
   unfolding nodes
   same-nodes s = tabulate-cong (nodeAt row) (nodeAt row′) (length row) (same-node s) ∙ ap (tabulate (nodeAt row′)) (s .count)
 
-  same-homes : nodes row ≡ nodes row′ → length row ≡ length row′ → (i : ℕ) → i < length row → home row i ≡ home row′ i
-  unfolding nodes nodeAt
-  same-homes e n i h =
-      ap net
-      (sym (getD-tabulate (nodeAt row) (length row) i (node (kindOf true true) 0) h)
-      ∙ ap (λ l. getD l i (node (kindOf true true) 0)) e
-      ∙ getD-tabulate (nodeAt row′) (length row′) i (node (kindOf true true) 0) (omega arith))
-    where
-      net : Node → ℕ
-      net (node k x) = x
-
   pub nodes-same : nodes row ≡ nodes row′ → SamePins row row′
   unfolding nodes
   nodes-same e =
       let n : length row ≡ length row′ = sym (length-tabulate (nodeAt row) (length row)) ∙ ap length e ∙ length-tabulate (nodeAt row′) (length row′) in
+      let at : (i : ℕ) → i < length row → nodeAt row i ≡ nodeAt row′ i = λ i h.
+      sym (getD-tabulate (nodeAt row) (length row) i (node N 0) h) ∙ ap (λ l. getD l i (node N 0)) e
+      ∙ getD-tabulate (nodeAt row′) (length row′) i (node N 0) (omega arith) in
       record {
         count = n;
         joins = λ i j hi hj.
-            joined-home row i j hi hj
-            ∙ ap₂ (λ a b. eqb a b) (same-homes e n i hi) (same-homes e n j hj)
-            ∙ sym (joined-home row′ i j (omega arith) (omega arith));
+            joined-nodes row i j hi hj ∙ ap₂ one-net (at i hi) (at j hj) ∙ sym (joined-nodes row′ i j (omega arith) (omega arith));
+        blanks = λ i h. blank-node row i ∙ ap (λ (m : Node). unjoined (kind m)) (at i h) ∙ sym (blank-node row′ i);
       }
 
   -- two rows join the same pins exactly when the street rules see the same nodes

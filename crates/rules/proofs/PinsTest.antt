@@ -1,6 +1,6 @@
--- The test of two rows passes exactly where they join the same pins.
-use mathlib.Core.Path.{_≡_, refl, sym, _∙_}
-use mathlib.Core.Bool.{Bool, true, false}
+-- The test of two rows passes exactly where they join the same pins and have the same blanks.
+use mathlib.Core.Path.{_≡_, refl, sym}
+use mathlib.Core.Bool.{Bool, true, false, _&&_}
 use mathlib.Core.List.{List}
 use mathlib.Core.Logic.{_↔_}
 use Prim.Native.Nat.{ℕ, zero, suc, _<_}
@@ -10,8 +10,8 @@ use lib.ListN.{length}
 use lib.Dec.{eqb}
 use borrow.Author.Tests.{eqb-true, eq-eqb}
 use Rattle.rules.specs.Basic.{every}
-use Rattle.rules.specs.Row.{joined, SamePins}
-use Rattle.rules.specs.Answers.{samePins}
+use Rattle.rules.specs.Row.{blank, joined, SamePins}
+use Rattle.rules.specs.Answers.{alike, samePins}
 
 by-test : {A : Type 0} (b : Bool) → (b ≡ true → A) → (b ≡ false → A) → A
 by-test true t f = t refl
@@ -35,30 +35,50 @@ every-at f (suc n) e i l = by-test (f 0) (λ t. go i l t (rw t at e) (every-at (
     go zero l t r ih = t
     go (suc i) l t r ih = ih r i (le-of-suc-le-suc l)
 
+alike-same : (a b : Bool) → alike a b ≡ true → a ≡ b
+unfolding alike
+alike-same true b e = sym e
+alike-same false true e = never e
+alike-same false false e = refl
+
+same-alike : (a b : Bool) → a ≡ b → alike a b ≡ true
+unfolding alike
+same-alike true b e = sym e
+same-alike false b e = rw (← e)
+
+true-and : (a b : Bool) → a && b ≡ true → (a ≡ true) × (b ≡ true)
+true-and true b e = (refl, e)
+true-and false b e = never e
+
 module _ (row row′ : List ℕ) where
+  blanks-alike : ℕ → Bool
+  blanks-alike i = alike (blank row i) (blank row′ i)
+
+  joins-alike : ℕ → ℕ → Bool
+  joins-alike i j = alike (joined row i j) (joined row′ i j)
+
   pub same-test : SamePins row row′ → samePins row row′ ≡ true
-  unfolding samePins
+  unfolding samePins blanks-alike joins-alike
   same-test s =
-      rw (eq-eqb (length row) (length row′) (s .count))
-      (every-true _ (length row) (λ i hi. every-true _ (length row) (λ j hj.
-      by-test (joined row i j)
-      (λ e. rw (e, sym (s .joins i j hi hj) ∙ e))
-      (λ e. rw (e, sym (s .joins i j hi hj) ∙ e)))))
+      let n : ℕ = length row in
+      rw (
+        eq-eqb n (length row′) (s .count),
+        every-true blanks-alike n (λ i h. same-alike (blank row i) (blank row′ i) (s .blanks i h)),
+        every-true (λ i. every (joins-alike i) n) n
+            (λ i h. every-true (joins-alike i) n (λ j l. same-alike (joined row i j) (joined row′ i j) (s .joins i j h l))),
+      )
 
   pub test-same : samePins row row′ ≡ true → SamePins row row′
-  unfolding samePins
+  unfolding samePins blanks-alike joins-alike
   test-same t =
-      by-test (eqb (length row) (length row′))
-      (λ e.
+      let n : ℕ = length row in
+      let a = true-and (eqb n (length row′) && every blanks-alike n) (every (λ i. every (joins-alike i) n) n) t in
+      let b = true-and (eqb n (length row′)) (every blanks-alike n) (a .0) in
       record {
-        count = eqb-true (length row) (length row′) e;
-        joins = λ i j hi hj.
-            let a = every-at _ (length row) (every-at _ (length row) (rw e at t) i hi) j hj in
-            by-test (joined row i j)
-            (λ p. by-test (joined row′ i j) (λ q. p ∙ sym q) (λ q. never (rw (p, q) at a)))
-            (λ p. by-test (joined row′ i j) (λ q. never (rw (p, q) at a)) (λ q. p ∙ sym q));
-      })
-      (λ e. never (rw e at t))
+        count = eqb-true n (length row′) (b .0);
+        joins = λ i j h l. alike-same (joined row i j) (joined row′ i j) (every-at (joins-alike i) n (every-at (λ i. every (joins-alike i) n) n (a .1) i h) j l);
+        blanks = λ i h. alike-same (blank row i) (blank row′ i) (every-at blanks-alike n (b .1) i h);
+      }
 
   pub pins-test : samePins row row′ ≡ true ↔ SamePins row row′
   pins-test = (test-same, same-test)

@@ -8,7 +8,7 @@ use lib.ListN.{length, getD}
 use lib.Dec.{eqb}
 use borrow.Author.Tests.{eqb-true, eqb-false, eq-eqb, ne-eqb}
 use Rattle.rules.specs.Basic.{pick, put, cut}
-use Rattle.rules.specs.Row.{before, Kind, B, M, E, node}
+use Rattle.rules.specs.Row.{before, Kind, B, M, E, N, node}
 use Rattle.rules.specs.Street.{next}
 use Rattle.rules.proofs.Pins.{at-before}
 
@@ -44,6 +44,7 @@ module _ (f : ℕ → ℕ) (x : ℕ) (only : Only f x) where
   next-map B o p = put-map f (p - 1) x o
   next-map M o p = refl
   next-map E o p = cut-map f (p - 1) o
+  next-map N o p = refl
 
 -- a label that occurs is the only one with its first node
 pub home-only : (row : List ℕ) (x : ℕ) → before x row < length row → Only (λ y. before y row) x

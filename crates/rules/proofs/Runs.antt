@@ -9,8 +9,8 @@ use lib.Dec.{T}
 use native.Mathlib.Omega.{arith}
 use Rattle.rules.specs.Basic.{keep, andThen}
 use Rattle.rules.specs.Row.{Node}
-use Rattle.rules.specs.Street.{step, run, stands, fits, counted, kind, next}
-use Rattle.rules.proofs.Fits.{Fits, fits→, →fits}
+use Rattle.rules.specs.Street.{step, run, stands, fitsAt, counted, kind, next}
+use Rattle.rules.proofs.Fits.{FitsAt, fitsAt→, →fitsAt}
 
 -- there is an order, and it is fine
 abbrev pub Ends : (List ℕ → Bool) → Option (List ℕ) → Type 0
@@ -35,7 +35,7 @@ Runs ku kl ns o ps = Leads (λ w. true) ku kl ns o ps
 -- what makes positions lead on from a node
 pub record Onward (fine : List ℕ → Bool) (ku kl : ℕ) (n : Node) (ns : List Node) (o : List ℕ) (p : ℕ) (ps : List ℕ) : Type 0 where
   pub stood : T (stands n o p)
-  pub fitted : Fits ku kl p (counted (kind n) (length o))
+  pub fitted : FitsAt (kind n) ku kl p (counted (kind n) (length o))
   pub rest : Leads fine ku kl ns (next n o p) ps
 
 test-true : (b : Bool) → T b → b ≡ true
@@ -44,7 +44,7 @@ test-true false t = absurd t
 
 module _ (fine : List ℕ → Bool) (ku kl : ℕ) (n : Node) (ns : List Node) (o : List ℕ) (p : ℕ) (ps : List ℕ) where
   abbrev fit : Bool
-  fit = fits ku kl p (counted (kind n) (length o))
+  fit = fitsAt (kind n) ku kl p (counted (kind n) (length o))
 
   pub onward : Leads fine ku kl (n ∷ ns) o (p ∷ ps) → Onward fine ku kl n ns o p ps
   unfolding run step keep andThen
@@ -53,14 +53,14 @@ module _ (fine : List ℕ → Bool) (ku kl : ℕ) (n : Node) (ns : List Node) (o
       go : (s f : Bool) → stands n o p ≡ s → fit ≡ f → Ends fine (andThen (keep (s && f) (next n o p)) (λ o′. run ku kl ns o′ ps)) →
           Onward fine ku kl n ns o p ps
       go true true es ef t =
-          record { stood = rw es tt; fitted = fits→ ku kl p (counted (kind n) (length o)) (rw ef tt); rest = t }
+          record { stood = rw es tt; fitted = fitsAt→ ku kl p (counted (kind n) (length o)) (kind n) (rw ef tt); rest = t }
       go true false es ef t = absurd t
       go false f es ef t = absurd t
 
   pub onward-leads : Onward fine ku kl n ns o p ps → Leads fine ku kl (n ∷ ns) o (p ∷ ps)
   unfolding run step keep andThen
   onward-leads g =
-      rw (test-true (stands n o p) (g .stood), test-true fit (→fits ku kl p (counted (kind n) (length o)) (g .fitted))) (g .rest)
+      rw (test-true (stands n o p) (g .stood), test-true fit (→fitsAt ku kl p (counted (kind n) (length o)) (kind n) (g .fitted))) (g .rest)
 
 module _ (ku kl : ℕ) where
   pub runs-rest : (n : Node) (ns : List Node) (o : List ℕ) (p : ℕ) (ps : List ℕ) →

@@ -9,8 +9,8 @@ use lib.ListN.{length}
 use native.Mathlib.Nat.{eq-or-lt-of-le}
 use native.Mathlib.Omega.{arith}
 use Rattle.rules.specs.Basic.{keep, andThen, orElse}
-use Rattle.rules.specs.Row.{Kind, B, M, E, Node}
-use Rattle.rules.specs.Street.{step, run, counted, kind, Placing, Earlier, here, there, IsFirst}
+use Rattle.rules.specs.Row.{Kind, B, M, E, N, Node}
+use Rattle.rules.specs.Street.{step, run, last, counted, kind, Placing, Earlier, here, there, IsFirst}
 use Rattle.rules.specs.Street.{firstFrom, also, way, empty, first}
 use Rattle.rules.proofs.Earlier.{earlier-asymmetric}
 use Rattle.rules.proofs.Runs.{Ends, Leads, at-ends, onward}
@@ -94,11 +94,12 @@ module _ (P : List ℕ → Type 0) where
               ⊎-elim (λ u. same qs (u .0) (u .1) (ha .others (u .0) (u .2))) (λ c. inr (begins-later p k ps qs c))
               (begins-split p k qs b)
 
-counted-le : (k : Kind) (b : ℕ) → counted k b ≤ suc b
-unfolding counted
-counted-le B b = omega arith
-counted-le M b = omega arith
-counted-le E b = omega arith
+last-le : (k : Kind) (b : ℕ) → last k (counted k b) ≤ suc b
+unfolding last counted
+last-le B b = omega arith
+last-le M b = omega arith
+last-le E b = omega arith
+last-le N b = omega arith
 
 module _ (fine : List ℕ → Bool) (ku kl : ℕ) where
   -- the search tries every position that a node may have
@@ -108,7 +109,7 @@ module _ (fine : List ℕ → Bool) (ku kl : ℕ) where
   leads-begins n ns o [] t = absurd t
   leads-begins n ns o (q ∷ qs) t =
       let f = onward fine ku kl n ns o q qs t .fitted in
-      let h : q < 1 + suc (length o) = omega (arith, counted-le (kind n) (length o)) in
+      let h : q < 1 + suc (length o) = omega (arith, last-le (kind n) (length o)) in
       begins (f .low) h t
 
   pub way-right : (ns : List Node) (o : List ℕ) → Right (Leads fine ku kl ns o) (way fine ku kl ns o)
@@ -140,7 +141,7 @@ module _ (fine : List ℕ → Bool) (ku kl : ℕ) where
       on none h = λ qs t. t
       on (some o′) h = h o′
 
-ends-empty : (r : Option (List ℕ)) → Ends empty r → r ≡ some []
+pub ends-empty : (r : Option (List ℕ)) → Ends empty r → r ≡ some []
 unfolding empty
 ends-empty none t = absurd t
 ends-empty (some []) t = refl

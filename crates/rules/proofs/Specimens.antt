@@ -1,21 +1,21 @@
--- S1 to S12 of document 01, S12 with request 6's number, hold for the definitions, and so do its table of u and some films and refusals more: antt computes each.
+-- S1 to S12 of document 01, S12 with request 6's number, hold for the definitions, and so do its table of u, some films and refusals more, and rows and sheets with blanks: antt computes each.
 use mathlib.Core.Bool.{Bool, true, false, _&&_}
 use mathlib.Core.List.{List, [], _∷_, _++_}
 use Prim.Native.Nat.{ℕ, _+_, _-_, _*_}
 use lib.ListN.{length, replicate}
 use lib.Dec.{T, eqb}
 use Rattle.rules.specs.Basic.{pick, tabulate, every, least, put, cut, keep, andThen, orElse, isNone, settle}
-use Rattle.rules.specs.Row.{before, has, joined, home, later, kindOf, nodeAt, nodes, lone}
-use Rattle.rules.specs.Street.{limits, met, fits, counted, stands, next, kind, step, run, positions, choices, firstFrom, also, way, empty, first, failing}
+use Rattle.rules.specs.Row.{before, has, blank, joined, home, later, kindOf, nodeAt, nodes, lone}
+use Rattle.rules.specs.Street.{limits, blankLimits, met, last, limitsAt, fitsAt, counted, stands, next, kind, step, run, positions, choices, firstFrom, also, way, empty, first, failing}
 use Rattle.rules.specs.Bits.{digits, val, pack, unpack, bytes}
-use Rattle.rules.specs.Sheet.{takes, code, kindIn, entries, entryBits, size, padding, sheetBits, sheet, upperOf, lowerOf, countOf, entryAt, entriesOf, paddingOf, begun, labelled, labels, rowOf}
-use Rattle.rules.specs.Film.{upper, heightAt, target, ran, wall, bent, drawn, climb, sink, gap, opened, closed, ending, draw, records, recBits, filmBytes, Rec, across, upright}
-use Rattle.rules.specs.Judgement.{wrongCount, head, room, broken, faultAt, left, scan, leftOpen, tail, middle, judge}
-use Rattle.rules.specs.Answers.{limitNumber, faultSaid, routeSaid, readSaid, drawSaid, written, firstLone, refusal, outcome, routing, firstSheet, cleared, workAfter, sheetAfter, reading, rowAfter, samePins, agrees, drawing, FilmAfter, Said}
+use Rattle.rules.specs.Sheet.{takes, code, kindIn, entries, entryBits, size, padding, sheetBits, sheet, upperOf, lowerOf, countOf, entryAt, entriesOf, paddingOf, begun, begunBy, netsOf, netAt, nets, pinsOf, label, rowOf}
+use Rattle.rules.specs.Film.{upper, upperAt, heightAt, target, ran, wall, bent, drawn, climb, sink, gap, opened, closed, marks, draw, records, recBits, filmBytes, Rec, across, upright}
+use Rattle.rules.specs.Judgement.{wrongCount, head, room, broken, faultAt, left, scan, leftOpen, tail, middle, judge, crowded, readable}
+use Rattle.rules.specs.Answers.{limitNumber, faultSaid, routeSaid, readSaid, drawSaid, written, firstLone, refusal, outcome, routing, firstSheet, cleared, workAfter, sheetAfter, reading, rowAfter, alike, samePins, agrees, drawing, Said}
 
 -- what is said of a specimen
 data Fact : Type 0 where
-  -- the row gets this sheet, from the first placing with these positions, and the reader gives its pins back
+  -- the row gets this sheet, and the reader gives its pins back
   routes : (row : List ℕ) (ku kl : ℕ) (sheet : List ℕ) → Fact
   -- the row's first placing has these positions, and the row gets its sheet
   places : (row : List ℕ) (ku kl : ℕ) (ps : List ℕ) → Fact
@@ -105,6 +105,10 @@ b = 98
 abbrev c : ℕ
 c = 99
 
+-- a blank
+abbrev z : ℕ
+z = 255
+
 -- S1 to S12
 specimens : List Fact
 specimens =
@@ -168,7 +172,7 @@ table =
     ∷ lays 3 1 1 ∷ lays 3 2 2 ∷ lays 3 3 3 ∷ lays 3 4 3
     ∷ []
 
--- each cause of a refused sheet: 11, 12, 13, 15, 16, each of the three limits by itself, 18, 19; then 14 and 21
+-- each cause of a refused sheet but 23: 11, 12, 13, 16, each of the three limits by itself, 18, 19; then 14 and 21
 causes : List Fact
 causes =
     refused [] 11 0
@@ -176,7 +180,7 @@ causes =
     ∷ refused (0x40 ∷ 0x02 ∷ 0x02 ∷ 0x00 ∷ []) 12 0
     ∷ refused (0x10 ∷ 0x02 ∷ 0x02 ∷ []) 13 0
     ∷ refused (0x10 ∷ 0x02 ∷ 0x02 ∷ 0x00 ∷ 0x00 ∷ []) 13 0
-    ∷ refused (0x10 ∷ 0x02 ∷ 0x03 ∷ 0x00 ∷ []) 15 2
+    ∷ refused (0x10 ∷ 0x02 ∷ 0x03 ∷ 0x00 ∷ []) 30 2
     ∷ refused (0x10 ∷ 0x02 ∷ 0x82 ∷ 0x00 ∷ []) 16 1
     ∷ refused (0x00 ∷ 0x02 ∷ 0x04 ∷ 0x00 ∷ []) 16 1
     ∷ refused (0x08 ∷ 0x04 ∷ 0x00 ∷ 0x18 ∷ 0x20 ∷ []) 17 2
@@ -196,6 +200,26 @@ inTurn =
     ∷ refused (0x14 ∷ 0x03 ∷ 0x00 ∷ 0x00 ∷ 0x40 ∷ []) 31 3
     ∷ []
 
-specimens-hold : T (all (specimens ++ (films ++ (table ++ (causes ++ inTurn)))))
-unfolding pick tabulate every least put cut keep andThen orElse isNone settle before has joined home later kindOf nodeAt nodes lone limits met fits counted stands next kind step run positions choices firstFrom also way empty first failing digits val pack unpack takes code kindIn entries entryBits size padding sheetBits sheet upperOf lowerOf countOf entryAt entriesOf paddingOf begun labelled labels rowOf upper heightAt target ran wall bent drawn climb sink gap opened closed ending draw records recBits filmBytes wrongCount head room broken faultAt left scan leftOpen tail middle judge limitNumber faultSaid routeSaid readSaid drawSaid written firstLone refusal outcome routing firstSheet cleared workAfter sheetAfter reading rowAfter samePins agrees drawing sameSaid same fields copies once buffer holds all specimens films table causes inTurn
+-- rows and sheets with blanks: the smallest s, films, 3 spares blanks, 16, 17 and 30 at one; another legal s is read and drawn
+blanks : List Fact
+blanks =
+    routes (a ∷ z ∷ a ∷ []) 1 1 (0x14 ∷ 0x03 ∷ 0x03 ∷ 0x08 ∷ 0x00 ∷ [])
+    ∷ draws (0x14 ∷ 0x03 ∷ 0x03 ∷ 0x08 ∷ 0x00 ∷ [])
+    (upright 0 4 0 5 ∷ across 0 5 0 1 ∷ upright 0 3 1 5 ∷ across 0 3 1 17 ∷ upright 0 3 17 5 ∷ across 0 5 17 32 ∷ upright 0 4 32 5 ∷ [])
+    ∷ draws (0x14 ∷ 0x03 ∷ 0x03 ∷ 0x18 ∷ 0x00 ∷ []) (upright 0 4 0 5 ∷ across 0 5 0 32 ∷ upright 0 4 32 5 ∷ [])
+    ∷ tight (0x14 ∷ 0x03 ∷ 0x03 ∷ 0x18 ∷ 0x00 ∷ [])
+    ∷ routes (z ∷ a ∷ z ∷ a ∷ z ∷ []) 1 1 (0x14 ∷ 0x05 ∷ 0xc0 ∷ 0x0c ∷ 0x20 ∷ 0xc0 ∷ [])
+    ∷ routes (a ∷ b ∷ z ∷ a ∷ b ∷ z ∷ []) 1 1 (0x14 ∷ 0x06 ∷ 0x00 ∷ 0x0c ∷ 0x61 ∷ 0x83 ∷ 0x00 ∷ [])
+    ∷ routes (z ∷ z ∷ []) 0 0 (0x00 ∷ 0x02 ∷ 0xc3 ∷ 0x00 ∷ [])
+    ∷ draws (0x00 ∷ 0x02 ∷ 0xc3 ∷ 0x00 ∷ []) []
+    ∷ places (a ∷ b ∷ c ∷ 1 ∷ 2 ∷ 3 ∷ z ∷ 3 ∷ 2 ∷ 1 ∷ c ∷ b ∷ a ∷ []) 3 3 (1 ∷ 1 ∷ 1 ∷ 1 ∷ 2 ∷ 3 ∷ 4 ∷ 3 ∷ 2 ∷ 1 ∷ 1 ∷ 1 ∷ 1 ∷ [])
+    ∷ stops (a ∷ b ∷ z ∷ a ∷ b ∷ []) 2 0 6 4
+    ∷ stops (z ∷ a ∷ []) 1 1 3 2
+    ∷ refused (0x10 ∷ 0x03 ∷ 0x03 ∷ 0x08 ∷ 0x00 ∷ []) 30 2
+    ∷ refused (0x04 ∷ 0x03 ∷ 0x03 ∷ 0x18 ∷ 0x00 ∷ []) 17 2
+    ∷ refused (0x04 ∷ 0x03 ∷ 0x03 ∷ 0x28 ∷ 0x00 ∷ []) 16 2
+    ∷ []
+
+specimens-hold : T (all (specimens ++ (films ++ (table ++ (causes ++ (inTurn ++ blanks))))))
+unfolding pick tabulate every least put cut keep andThen orElse isNone settle before has blank joined home later kindOf nodeAt nodes lone limits blankLimits met last limitsAt fitsAt counted stands next kind step run positions choices firstFrom also way empty first failing digits val pack unpack takes code kindIn entries entryBits size padding sheetBits sheet upperOf lowerOf countOf entryAt entriesOf paddingOf begun begunBy netsOf netAt nets pinsOf label rowOf upper upperAt heightAt target ran wall bent drawn climb sink gap opened closed marks draw records recBits filmBytes wrongCount head room broken faultAt left scan leftOpen tail middle judge crowded readable limitNumber faultSaid routeSaid readSaid drawSaid written firstLone refusal outcome routing firstSheet cleared workAfter sheetAfter reading rowAfter alike samePins agrees drawing sameSaid same fields copies once buffer holds all specimens films table causes inTurn blanks
 specimens-hold = tt

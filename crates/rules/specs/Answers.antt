@@ -1,23 +1,22 @@
--- Document 01, 'When the software says no', with request 6's numbers of the limits: what router, reader, agreement test and drawer say, and every byte of the buffers after the call.
+-- Document 01, 'When the software says no', with request 6's numbers of the limits and request 1's blanks and 23: what router, reader, agreement test and drawer say, and every byte of the buffers after the call.
 use mathlib.Core.Path.{_≡_}
-use mathlib.Core.Bool.{Bool, true, false, not, _&&_, _||_}
+use mathlib.Core.Bool.{Bool, true, false, not, _&&_}
 use mathlib.Core.List.{List, [], _∷_, _++_}
 use mathlib.Core.Option.{Option, none, some, Option·map}
 use Prim.Native.Nat.{ℕ, suc, _*_}
 use lib.ListN.{length, drop, replicate}
 use lib.Dec.{eqb, ltb}
 use Rattle.rules.specs.declared.Limits.{Limits}
-use Rattle.rules.specs.declared.Limits.the-variants.{Met, Upper, Lower, Sum}
 use Rattle.rules.specs.declared.Fault.{Fault}
 use Rattle.rules.specs.declared.Routing.{Routing}
 use Rattle.rules.specs.declared.Reading.{Reading}
 use Rattle.rules.specs.declared.Drawing.{Drawing}
 use Rattle.rules.specs.Basic.{every, least, keep, orElse, settle, isNone}
-use Rattle.rules.specs.Row.{joined, Node, nodes, lone}
+use Rattle.rules.specs.Row.{blank, joined, Node, nodes, lone}
 use Rattle.rules.specs.Street.{first, failing}
 use Rattle.rules.specs.Sheet.{takes, size, sheet, countOf, rowOf}
 use Rattle.rules.specs.Film.{Rec, records, filmBytes}
-use Rattle.rules.specs.Judgement.{wrongCount, head, room, middle, tail, judge}
+use Rattle.rules.specs.Judgement.{wrongCount, head, room, middle, tail, judge, crowded, readable}
 
 -- an answer's number and place
 pub record Said : Type 0 where
@@ -38,11 +37,11 @@ unfoldable pub faultSaid : Fault → Said
 faultSaid Fault.Head = says 11 0
 faultSaid Fault.Tracks = says 12 0
 faultSaid Fault.Length = says 13 0
-faultSaid (Fault.Kind i) = says 15 i
 faultSaid (Fault.Position i) = says 16 i
 faultSaid (Fault.Street l i) = says (limitNumber l) i
 faultSaid (Fault.Open n) = says 18 n
 faultSaid Fault.Padding = says 19 0
+faultSaid Fault.Nets = says 23 0
 
 unfoldable pub routeSaid : Routing → Said
 routeSaid (Routing.Sheet n) = says 0 n
@@ -67,7 +66,7 @@ drawSaid (Drawing.Unfit e) = faultSaid e
 unfoldable pub written : List ℕ → List ℕ → List ℕ
 written new buffer = new ++ drop (length new) buffer
 
--- the first node whose label stands at no other, from 0; the number of nodes where there is none
+-- the first lone node, from 0; the number of nodes where there is none
 unfoldable pub firstLone : List ℕ → ℕ
 firstLone row = least (lone row) (length row)
 
@@ -121,7 +120,7 @@ unfoldable pub reading : (s row : List ℕ) → Reading
 reading s row =
     settle
     (orElse (Option·map Reading.Unfit (head s))
-    (orElse (keep (room s row) Reading.RowShort) (Option·map Reading.Unfit (orElse (middle s) (tail s)))))
+    (orElse (keep (room s row) Reading.RowShort) (Option·map Reading.Unfit (orElse (middle s) (orElse (tail s) (crowded s))))))
     (Reading.Row (countOf s))
 
 unfoldable pub rowAfter : Reading → (s row : List ℕ) → List ℕ
@@ -129,19 +128,21 @@ rowAfter (Reading.Row n) s row = written (rowOf s) row
 rowAfter Reading.RowShort s row = row
 rowAfter (Reading.Unfit e) s row = row
 
+-- two tests say the same
+unfoldable pub alike : Bool → Bool → Bool
+alike true b = b
+alike false b = not b
+
 -- two rows join the same pins, as a test
 unfoldable pub samePins : (row row′ : List ℕ) → Bool
 samePins row row′ =
     let n = length row in
-    eqb n (length row′) && every (λ i. every (λ j. alike (joined row i j) (joined row′ i j)) n) n
-  where
-    alike : Bool → Bool → Bool
-    alike true b = b
-    alike false b = not b
+    eqb n (length row′) && every (λ i. alike (blank row i) (blank row′ i)) n
+    && every (λ i. every (λ j. alike (joined row i j) (joined row′ i j)) n) n
 
 -- the agreement test's answer
 unfoldable pub agrees : (row s : List ℕ) → Bool
-agrees row s = isNone (judge s) && samePins row (rowOf s)
+agrees row s = isNone (readable s) && samePins row (rowOf s)
 
 -- the drawer's answer; a record has 5 bytes
 unfoldable pub drawing : (s film : List ℕ) → Drawing

@@ -1,4 +1,4 @@
--- Document 01, 'From sheet to wires': levels, moves, records and the film's bytes.
+-- Document 01, 'From sheet to wires', with request 1's blanks: levels, moves, records and the film's bytes.
 --
 -- A height is a level plus 4, as the film's fields have it: the axis is 4, upper tracks are above it, lower ones below. Columns
 -- count from 0, and the pitch, the columns from one node to the next, is a parameter: 16 in document 01. "Film" is its own term.
@@ -9,7 +9,7 @@ use Prim.Native.Nat.{ℕ, suc, _+_, _-_, _*_, min, max}
 use lib.ListN.{getD}
 use lib.Dec.{leb, ltb}
 use Rattle.rules.specs.Basic.{pick, put, cut}
-use Rattle.rules.specs.Row.{Kind, B, M, E}
+use Rattle.rules.specs.Row.{Kind, B, M, E, N}
 use Rattle.rules.specs.Bits.{digits, bytes}
 use Rattle.rules.specs.Sheet.{kindIn, begun, Entry, entry, upperOf, entriesOf}
 
@@ -20,6 +20,13 @@ axis = 4
 unfoldable pub upper : (ku p : ℕ) → ℕ
 upper ku p = min p ku
 
+-- u at a node with a wires above its own; at a blank it is s
+unfoldable pub upperAt : Kind → (ku a : ℕ) → ℕ
+upperAt B ku a = upper ku (suc a)
+upperAt M ku a = upper ku (suc a)
+upperAt E ku a = upper ku (suc a)
+upperAt N ku a = a
+
 -- the height of the wire at position q: level u − q + 1 where q ≤ u, else −(q − u)
 unfoldable pub heightAt : (u q : ℕ) → ℕ
 heightAt u q = pick (leb q u) (axis + (u - q + 1)) (axis - (q - u))
@@ -29,6 +36,7 @@ unfoldable pub target : Kind → (u a q : ℕ) → ℕ
 target B u a q = heightAt u (pick (ltb q a) (suc q) (suc (suc q)))
 target M u a q = heightAt u (suc q)
 target E u a q = heightAt u (suc q)
+target N u a q = heightAt u (suc q)
 
 -- a horizontal from column to column, or a vertical from height to height
 pub data Rec : Type 0 where
@@ -95,31 +103,34 @@ unfoldable pub opened : Kind → (n h x a : ℕ) → List Wire → List Wire
 opened B n h x a ws = put a (record { net = n; height = h; since = x }) ws
 opened M n h x a ws = ws
 opened E n h x a ws = ws
+opened N n h x a ws = ws
 
 -- the wires after it: at an E without the net's
 unfoldable pub closed : Kind → ℕ → List Wire → List Wire
 closed B a ws = ws
 closed M a ws = ws
 closed E a ws = cut a ws
+closed N a ws = ws
 
--- the last run of a net at its E
-unfoldable pub ending : Kind → ℕ → Wire → List Rec
-ending B x w = []
-ending M x w = []
-ending E x w = ran x w ∷ []
+-- what is drawn of a node's own wire: its stub, and at an E its last run; at a blank nothing
+unfoldable pub marks : Kind → ℕ → Wire → List Rec
+marks B x w = wall x axis w ∷ []
+marks M x w = wall x axis w ∷ []
+marks E x w = wall x axis w ∷ ran x w ∷ []
+marks N x w = []
 
--- the records from node i on, from 0, with n nets begun: the moves before each node, its stub, and at an E the last run.
--- The net with a others above is always there in a legal sheet, so the wire that stands in for a missing one is never drawn
+-- the records from node i on, from 0, with n nets begun: the moves before each node and its marks.
+-- In a legal sheet only a blank can lack a wire with a others above, and nothing is drawn of a blank: the wire that stands in for it is never drawn
 unfoldable pub draw : (pitch ku i n : ℕ) → List Wire → List Entry → List Rec
 draw pitch ku i n ws [] = []
 draw pitch ku i n ws (entry f a ∷ es) =
     let k = kindIn f in
-    let u = upper ku (suc a) in
+    let u = upperAt k ku a in
     let x = pitch * i in
     let g = gap (target k u a) (pitch * (i - 1)) ws in
     let vs = opened k n (heightAt u (suc a)) x a (g .wires) in
     let w = getD vs a (record { net = n; height = axis; since = x }) in
-    g .film ++ (wall x axis w ∷ ending k x w ++ draw pitch ku (suc i) (begun k n) (closed k a vs) es)
+    g .film ++ (marks k x w ++ draw pitch ku (suc i) (begun k n) (closed k a vs) es)
 
 -- the records of a sheet
 unfoldable pub records : ℕ → List ℕ → List Rec

@@ -1,34 +1,37 @@
--- Document 01, 'The sheet': its fields, its bytes, the sheet of a placing, and the row that the reader gives back.
+-- Document 01, 'The sheet', with request 1's blanks: its fields, its bytes, the sheet of a placing, and the row that the reader gives back.
 --
 -- "Sheet" is document 01's own term.
 use mathlib.Core.Path.{_≡_}
 use mathlib.Core.Bool.{Bool, false, _&&_}
-use mathlib.Core.List.{List, [], _∷_, _++_}
+use mathlib.Core.List.{List, [], _∷_, _++_, map}
+use mathlib.Core.Option.{Option, none, some}
 use Prim.Native.Nat.{ℕ, zero, suc, _+_, _-_, _*_, _/_, _≤_, _<_}
 use lib.ListN.{length, getD, drop}
 use lib.Dec.{leb}
 use Rattle.rules.specs.Basic.{tabulate}
-use Rattle.rules.specs.Row.{Kind, B, M, E, Node, node, nodes, lone}
+use Rattle.rules.specs.Row.{Kind, B, M, E, N, Node, node, nodes, lone}
 use Rattle.rules.specs.Street.{kind, next, Placing}
-use Rattle.rules.specs.Bits.{digits, val, bits, bytes, field, Below}
+use Rattle.rules.specs.Bits.{digits, val, bits, bytes, field}
 
 -- the track counts that the router takes
 unfoldable pub takes : (ku kl : ℕ) → Bool
 takes ku kl = leb ku 3 && leb kl 3
 
--- the kind field: B 0, M 1, E 2
+-- the kind field: B 0, M 1, E 2, a blank 3
 unfoldable pub code : Kind → ℕ
 code B = 0
 code M = 1
 code E = 2
+code N = 3
 
--- the kind of a kind field; 3 is none, and is refused before anything else is read there
+-- the kind of a kind field, which has two bits
 unfoldable pub kindIn : ℕ → Kind
 kindIn zero = B
 kindIn (suc zero) = M
-kindIn (suc (suc f)) = E
+kindIn (suc (suc zero)) = E
+kindIn (suc (suc (suc f))) = N
 
--- a node's two fields: its kind, and p − 1, the number of nets above its own
+-- a node's two fields: its kind, and p − 1, the number of nets above its own; at a blank that is s
 pub data Entry : Type 0 where
   entry : (kind above : ℕ) → Entry
 
@@ -62,7 +65,6 @@ sheet ku kl ns ps = bytes (sheetBits ku kl (entries ns ps))
 
 -- a row with a placing, under a node count and track counts that the router takes
 pub record Placed (row : List ℕ) (ku kl : ℕ) (ps : List ℕ) : Type 0 where
-  pub bytes-alone : Below 256 row
   pub least : 2 ≤ length row
   pub most : length row ≤ 512
   pub whole : (i : ℕ) → i < length row → lone row i ≡ false
@@ -70,7 +72,7 @@ pub record Placed (row : List ℕ) (ku kl : ℕ) (ps : List ℕ) : Type 0 where
   pub lower : kl ≤ 3
   pub placing : Placing ku kl (nodes row) ps
 
--- s is the sheet of some row's placing
+-- s is the sheet of some row's placing; the row's labels may be any numbers, since bytes cannot name 256 nets
 pub record SheetOf (s : List ℕ) : Type 0 where
   pub row : List ℕ
   pub ku : ℕ
@@ -103,19 +105,39 @@ unfoldable pub begun : Kind → ℕ → ℕ
 begun B n = suc n
 begun M n = n
 begun E n = n
+begun N n = n
 
--- the label at a node: of a new net the next number, else that of the net with a others above
-unfoldable pub labelled : Kind → ℕ → ℕ → List ℕ → ℕ
-labelled B a n o = n
-labelled M a n o = getD o a 0
-labelled E a n o = getD o a 0
+-- the nets begun by entries, where n were before them
+unfoldable pub begunBy : ℕ → List Entry → ℕ
+begunBy n [] = n
+begunBy n (entry f a ∷ es) = begunBy (begun (kindIn f) n) es
 
--- the labels from an order of labels on, with n nets begun: nets are 0, 1, 2 in the order of their first nodes
-unfoldable pub labels : ℕ → List ℕ → List Entry → List ℕ
-labels n o [] = []
-labels n o (entry f a ∷ es) =
-    labelled (kindIn f) a n o ∷ labels (begun (kindIn f) n) (next (node (kindIn f) n) o (suc a)) es
+-- the nets of a sheet
+unfoldable pub netsOf : List ℕ → ℕ
+netsOf s = begunBy 0 (entriesOf s)
+
+-- the net at a node, by its number: a new net has the next, else it is the one with a others above; a blank has none
+unfoldable pub netAt : Kind → ℕ → ℕ → List ℕ → Option ℕ
+netAt B a n o = some n
+netAt M a n o = some (getD o a 0)
+netAt E a n o = some (getD o a 0)
+netAt N a n o = none
+
+-- the nets from an order of numbers on, with n nets begun: they are 0, 1, 2 in the order of their first nodes
+unfoldable pub nets : ℕ → List ℕ → List Entry → List (Option ℕ)
+nets n o [] = []
+nets n o (entry f a ∷ es) =
+    netAt (kindIn f) a n o ∷ nets (begun (kindIn f) n) (next (node (kindIn f) n) o (suc a)) es
+
+-- the net at each pin of a sheet
+unfoldable pub pinsOf : List ℕ → List (Option ℕ)
+pinsOf s = nets 0 [] (entriesOf s)
+
+-- the reader's label: a net's number, and 255 for a blank
+unfoldable pub label : Option ℕ → ℕ
+label none = 255
+label (some n) = n
 
 -- the row that the reader gives back
 unfoldable pub rowOf : List ℕ → List ℕ
-rowOf s = labels 0 [] (entriesOf s)
+rowOf s = map label (pinsOf s)

@@ -1,4 +1,4 @@
--- Document 01, 'Street rules': orders, limits, placings, reading order, the first placing, the failing node.
+-- Document 01, 'Street rules', with request 1's blanks: orders, limits, placings, reading order, the first placing, the failing node.
 --
 -- An order lists the open nets from top to bottom. Positions p count from 1, the top. "Placing", "reading order" and
 -- "first placing" are document 01's own terms.
@@ -13,7 +13,7 @@ use lib.Dec.{leb, eqb, ltb}
 use Rattle.rules.specs.declared.Limits.{Limits}
 use Rattle.rules.specs.declared.Limits.the-variants.{Met, Upper, Lower, Sum}
 use Rattle.rules.specs.Basic.{pick, least, put, cut, keep, andThen, orElse, isNone}
-use Rattle.rules.specs.Row.{before, Kind, B, M, E, Node, node}
+use Rattle.rules.specs.Row.{before, Kind, B, M, E, N, Node, node}
 
 -- the first of the three limits that the wire at position p of b breaks, or Met: p − 1 ≤ Ku, b − p ≤ Kl, b ≤ Ku + Kl
 unfoldable pub limits : (ku kl p b : ℕ) → Limits
@@ -29,30 +29,55 @@ met Sum = false
 unfoldable pub fits : (ku kl p b : ℕ) → Bool
 fits ku kl p b = leb 1 p && leb p b && met (limits ku kl p b)
 
--- b: the open nets at a node, with its own, where so many were open before it
+-- the first limit that a blank with s of b wires above it breaks, or Met: s ≤ Ku, b − s ≤ Kl
+unfoldable pub blankLimits : (ku kl s b : ℕ) → Limits
+blankLimits ku kl s b = pick (ltb ku s) Upper (pick (ltb kl (b - s)) Lower Met)
+
+-- the positions at a node of a kind with b open nets are 1 to the last; a blank stands below s of them, at position s + 1
+unfoldable pub last : Kind → ℕ → ℕ
+last B b = b
+last M b = b
+last E b = b
+last N b = suc b
+
+-- the first limit that a node of a kind at position p of b breaks, or Met
+unfoldable pub limitsAt : Kind → (ku kl p b : ℕ) → Limits
+limitsAt B ku kl p b = limits ku kl p b
+limitsAt M ku kl p b = limits ku kl p b
+limitsAt E ku kl p b = limits ku kl p b
+limitsAt N ku kl p b = blankLimits ku kl (p - 1) b
+
+-- p is a position there, and the limits hold
+unfoldable pub fitsAt : Kind → (ku kl p b : ℕ) → Bool
+fitsAt k ku kl p b = leb 1 p && leb p (last k b) && met (limitsAt k ku kl p b)
+
+-- b: the open nets at a node, with its own if it has one, where so many were open before it
 unfoldable pub counted : Kind → ℕ → ℕ
 counted B b = suc b
 counted M b = b
 counted E b = b
+counted N b = b
 
--- a new net may be put anywhere; another stands where the order has it
+-- a new net may be put anywhere, and a blank may have any number of wires above; another net stands where the order has it
 unfoldable pub stands : Node → List ℕ → ℕ → Bool
 stands (node B x) o p = true
 stands (node M x) o p = eqb p (suc (before x o))
 stands (node E x) o p = eqb p (suc (before x o))
+stands (node N x) o p = true
 
--- the order after a node whose net stands at p
+-- the order after a node whose net stands at p; a blank leaves it as it is
 unfoldable pub next : Node → List ℕ → ℕ → List ℕ
 next (node B x) o p = put (p - 1) x o
 next (node M x) o p = o
 next (node E x) o p = cut (p - 1) o
+next (node N x) o p = o
 
 unfoldable pub kind : Node → Kind
 kind (node k x) = k
 
 -- one node at position p: the order after it, or none where a rule is broken
 unfoldable pub step : (ku kl : ℕ) → Node → List ℕ → ℕ → Option (List ℕ)
-step ku kl n o p = keep (stands n o p && fits ku kl p (counted (kind n) (length o))) (next n o p)
+step ku kl n o p = keep (stands n o p && fitsAt (kind n) ku kl p (counted (kind n) (length o))) (next n o p)
 
 -- the nodes from the order o on, with a position for each
 unfoldable pub run : (ku kl : ℕ) → List Node → List ℕ → List ℕ → Option (List ℕ)
@@ -61,17 +86,19 @@ run ku kl [] o (p ∷ ps) = none
 run ku kl (n ∷ ns) o [] = none
 run ku kl (n ∷ ns) o (p ∷ ps) = andThen (step ku kl n o p) (λ o′. run ku kl ns o′ ps)
 
--- a placing, with its positions at every node: every rule is met, and the order is empty after the last node
+-- a placing, with its positions at every node, blanks too: every rule is met, and the order is empty after the last node
 abbrev pub Placing : (ku kl : ℕ) → List Node → List ℕ → Type 0
 Placing ku kl ns ps = run ku kl ns [] ps ≡ some []
 
--- the positions at every node that follow from those at the B nodes: at M and E the net's place in the order
-unfoldable pub positions : List Node → List ℕ → List ℕ → List ℕ
-positions [] o cs = []
-positions (node B x ∷ ns) o [] = []
-positions (node B x ∷ ns) o (p ∷ cs) = p ∷ positions ns (put (p - 1) x o) cs
-positions (node M x ∷ ns) o cs = suc (before x o) ∷ positions ns o cs
-positions (node E x ∷ ns) o cs = suc (before x o) ∷ positions ns (cut (before x o) o) cs
+-- the positions at every node that follow from those at the B nodes: at M and E the net's place in the order, and at a blank the
+-- one with the smallest s that the limits allow, b − Kl or 0
+unfoldable pub positions : ℕ → List Node → List ℕ → List ℕ → List ℕ
+positions kl [] o cs = []
+positions kl (node B x ∷ ns) o [] = []
+positions kl (node B x ∷ ns) o (p ∷ cs) = p ∷ positions kl ns (put (p - 1) x o) cs
+positions kl (node M x ∷ ns) o cs = suc (before x o) ∷ positions kl ns o cs
+positions kl (node E x ∷ ns) o cs = suc (before x o) ∷ positions kl ns (cut (before x o) o) cs
+positions kl (node N x ∷ ns) o cs = suc (length o - kl) ∷ positions kl ns o cs
 
 -- the positions at the B nodes, of those at every node
 unfoldable pub choices : List Node → List ℕ → List ℕ
@@ -80,11 +107,13 @@ choices (n ∷ ns) [] = []
 choices (node B x ∷ ns) (p ∷ ps) = p ∷ choices ns ps
 choices (node M x ∷ ns) (p ∷ ps) = choices ns ps
 choices (node E x ∷ ns) (p ∷ ps) = choices ns ps
+choices (node N x ∷ ns) (p ∷ ps) = choices ns ps
 
--- a placing in document 01's words: a choice of p at each B and nowhere else, whose positions meet every rule
+-- a placing in document 01's words: a choice of p at each B and nowhere else, whose positions meet every rule, with the smallest s
+-- at each blank
 pub record Choice (ku kl : ℕ) (ns : List Node) (cs : List ℕ) : Type 0 where
-  pub each : choices ns (positions ns [] cs) ≡ cs
-  pub placing : Placing ku kl ns (positions ns [] cs)
+  pub each : choices ns (positions kl ns [] cs) ≡ cs
+  pub placing : Placing ku kl ns (positions kl ns [] cs)
 
 -- reading order: at the first place where two lists differ, the smaller p comes first
 pub data Earlier : List ℕ → List ℕ → Type 0 where

@@ -6,6 +6,7 @@ use mathlib.Core.Path.{_≡_}
 use mathlib.Core.Bool.{Bool, _&&_}
 use mathlib.Core.List.{List, [], _∷_, List·Memᴰ}
 use mathlib.Core.Logic.{_⊎_, _≢_}
+use mathlib.Core.Option.{Option, none, some}
 use Prim.Native.Nat.{ℕ, _+_, _-_, _*_, _≤_, _<_}
 use lib.ListN.{length, getD}
 use lib.Dec.{leb, ltb, eqb}
@@ -36,15 +37,15 @@ unfoldable pub overs : (net c : ℕ) → List Rec → ℕ
 overs net c [] = 0
 overs net c (r ∷ film) = pick (over net c r) 1 0 + overs net c film
 
--- the film of a row, whose labels are the records' net numbers, under Ku and Kl tracks, with its nodes pitch columns apart
-pub record WireRules (pitch ku kl : ℕ) (row : List ℕ) (film : List Rec) : Type 0 where
+-- the film of pins with their nets, numbered as the records have them, under Ku and Kl tracks, the nodes pitch columns apart
+pub record WireRules (pitch ku kl : ℕ) (pins : List (Option ℕ)) (film : List Rec) : Type 0 where
   -- no point is on two nets
   pub apart : (r r′ : Rec) (x y : ℕ) → List·Memᴰ r film → List·Memᴰ r′ film → On r x y → On r′ x y → netOf r ≡ netOf r′
-  -- a pin is touched by its own net alone
-  pub pins : (r : Rec) (i : ℕ) → List·Memᴰ r film → i < length row → On r (pitch * i) axis → netOf r ≡ getD row i 0
+  -- a pin is touched by its own net alone, a blank by none
+  pub own : (r : Rec) (i : ℕ) → List·Memᴰ r film → i < length pins → On r (pitch * i) axis → getD pins i none ≡ some (netOf r)
   -- each net's records join all its nodes
-  pub joins : (i j : ℕ) → i < length row → j < length row → getD row i 0 ≡ getD row j 0
-      → Linked (getD row i 0) film (pitch * i) axis (pitch * j) axis
+  pub joins : (net i j : ℕ) → getD pins i none ≡ some net → getD pins j none ≡ some net
+      → Linked net film (pitch * i) axis (pitch * j) axis
   -- a cut strictly between two columns meets at most one horizontal of a net
   pub cuts : (net c : ℕ) → overs net c film ≤ 1
   -- horizontals lie on tracks −Kl to Ku and never on the axis

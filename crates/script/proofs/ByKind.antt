@@ -1,50 +1,51 @@
 -- What a node of each kind does to the open nets, youngest first.
 use mathlib.Core.Path.{_≡_, refl, sym, ap, _∙_}
-use mathlib.Core.Bool.{Bool, true, false, not}
+use mathlib.Core.Bool.{true, false}
 use mathlib.Core.List.{List, _∷_}
 use Prim.Native.Nat.{ℕ, suc, _-_, _<_}
+use native.Mathlib.Decide.{ℕ-discrete}
 use native.Mathlib.Omega.{arith}
 use lib.ListN.{getD}
-use lib.Dec.{eqb}
 use borrow.Author.Tests.{eq-eqb, ne-eqb}
-use Rattle.rules.specs.Basic.{cut}
+use Rattle.rules.specs.Basic.{pick, cut}
 use Rattle.rules.specs.Row.{before, kindOf}
 use Rattle.rules.specs.Sheet.{code, kindIn}
 use Rattle.street.specs.Order.{capacity}
 use Rattle.steps.specs.Plan.{young, age}
-use Rattle.script.specs.Told.{lined, Lined, Closed, Turning, Turns}
+use Rattle.script.specs.Told.{lined, Lined, Closed, kindBy, Turning, Turns}
 use Rattle.script.proofs.Lining.{found}
 
--- the kind field of node i, by its net's first and last node
-abbrev pub kindBy : (first last i : ℕ) → ℕ
-kindBy first last i = code (kindOf (eqb first i) (not (eqb last i)))
+module _ (x first last i : ℕ) where
+  pub rests : x ≡ 255 → kindBy x first last i ≡ 3
+  unfolding kindBy pick code
+  rests e = simp (eq-eqb x 255 e)
 
-module _ (first last i : ℕ) where
-  pub begins : first ≡ i → kindBy first last i ≡ 0
-  unfolding code kindOf
-  begins e = simp (eq-eqb first i e)
+  module _ (net : x ≡ 255 → ⊥) where
+    pub begins : first ≡ i → kindBy x first last i ≡ 0
+    unfolding kindBy pick code kindOf
+    begins e = simp (ne-eqb x 255 net, eq-eqb first i e)
 
-  pub ends : (first ≡ i → ⊥) → last ≡ i → kindBy first last i ≡ 2
-  unfolding code kindOf
-  ends n e = simp (ne-eqb first i n, eq-eqb last i e)
+    pub ends : (first ≡ i → ⊥) → last ≡ i → kindBy x first last i ≡ 2
+    unfolding kindBy pick code kindOf
+    ends n e = simp (ne-eqb x 255 net, ne-eqb first i n, eq-eqb last i e)
 
-  pub meets : (first ≡ i → ⊥) → (last ≡ i → ⊥) → kindBy first last i ≡ 1
-  unfolding code kindOf
-  meets n m = simp (ne-eqb first i n, ne-eqb last i m)
+    pub meets : (first ≡ i → ⊥) → (last ≡ i → ⊥) → kindBy x first last i ≡ 1
+    unfolding kindBy pick code kindOf
+    meets n m = simp (ne-eqb x 255 net, ne-eqb first i n, ne-eqb last i m)
 
-  pub not-begun : (first ≡ i → ⊥) → kindBy first last i ≡ 0 → ⊥
-  unfolding code kindOf
-  not-begun n e = go (not (eqb last i)) (ap (λ (b : Bool). code (kindOf b (not (eqb last i)))) (sym (ne-eqb first i n)) ∙ e)
-    where
-      go : (l : Bool) → code (kindOf false l) ≡ 0 → ⊥
-      go true d = omega arith
-      go false d = omega arith
+    not-begun : (first ≡ i → ⊥) → (0 < kindBy x first last i) × (kindBy x first last i < 3)
+    not-begun n = go (ℕ-discrete last i)
+      where
+        go : Dec (last ≡ i) → (0 < kindBy x first last i) × (kindBy x first last i < 3)
+        go (yes e) = rw (ends n e) (omega arith, omega arith)
+        go (no m) = rw (meets n m) (omega arith, omega arith)
 
--- a node that begins no net finds its own by its label
-pub touched : (nets elders : List ℕ) (b first last i x : ℕ) → Lined nets elders b → Turning (lined nets b) (kindBy first last i) x → (first ≡ i → ⊥)
-    → (getD elders x 0 < b) × (b - 1 - getD elders x 0 ≡ before x (lined nets b))
-touched nets elders b first last i x l t n =
-    let f = found nets elders b l x (t .there (not-begun first last i n)) in
+-- a node that goes on with a net or ends it finds its own by its label
+pub touched : (nets elders : List ℕ) (b first last i x : ℕ) → Lined nets elders b → Turning (lined nets b) (kindBy x first last i) x
+    → (x ≡ 255 → ⊥) → (first ≡ i → ⊥) → (getD elders x 0 < b) × (b - 1 - getD elders x 0 ≡ before x (lined nets b))
+touched nets elders b first last i x l t net n =
+    let k = not-begun x first last i net n in
+    let f = found nets elders b l x (t .there (k .0) (k .1)) in
     (f .0, omega (arith, f .0, f .1))
 
 module _ (nets : List ℕ) (b x : ℕ) where
@@ -68,6 +69,11 @@ module _ (nets : List ℕ) (b x : ℕ) where
         lines = l;
         turned = λ z. record { aged = refl; list = e };
       }
+
+  -- a blank
+  pub turns-rest : (elders : List ℕ) → Lined nets elders b → Turns nets b 3 x 3 false 0 nets elders b
+  unfolding kindIn young age
+  turns-rest elders l = record { kind-is = refl; full-is = refl; lines = l; turned = λ z. record { aged = refl; list = refl } }
 
   module _ (a : ℕ) (aged : a ≡ before x (lined nets b)) where
     pub turns-met : (elders : List ℕ) → Lined nets elders b → Turns nets b 1 x 1 false a nets elders b

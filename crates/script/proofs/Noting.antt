@@ -11,7 +11,7 @@ use lib.Dec.{eqb}
 use borrow.Author.Count.{below-more}
 use borrow.Author.Tests.{eqb-true, eqb-false, eq-eqb, ne-eqb}
 use Rattle.rules.specs.Basic.{pick, least}
-use Rattle.rules.specs.Row.{before, home, later, lone}
+use Rattle.rules.specs.Row.{before, blank, home, later, lone}
 use Rattle.rules.specs.Answers.{firstLone}
 use Rattle.rules.proofs.Pins.{before-found, home-le, label-home}
 use Rattle.rules.proofs.Least.{least-le, least-holds, least-before}
@@ -137,11 +137,17 @@ module _ (row first last : List ℕ) (t : Tabled row first last) (i : ℕ) (h : 
           sym q ∙ ahead-later row i
           (record { at = noted row last i - 1; from = omega arith; within = omega (arith, t .lasts .within i h); label = t .lasts .same i h })
 
-  -- a node is lone exactly where its net's first and last node are one
-  pub lone-one : lone row i ≡ eqb (noted row first i) (noted row last i)
-  unfolding lone
-  lone-one =
-      ap₂ (λ (a b : Bool). a && not b) (sym begins-here) later-not-last
+  -- a blank is not lone
+  pub blank-not-lone : getD row i 0 ≡ 255 → lone row i ≡ false
+  unfolding lone blank
+  blank-not-lone e = rw (eq-eqb (getD row i 0) 255 e) refl
+
+  -- another node is lone exactly where its net's first and last node are one
+  pub lone-one : (getD row i 0 ≡ 255 → ⊥) → lone row i ≡ eqb (noted row first i) (noted row last i)
+  unfolding lone blank
+  lone-one n =
+      ap (λ (t : Bool). not t && eqb (home row i) i && not (later row i)) (ne-eqb (getD row i 0) 255 n)
+      ∙ ap₂ (λ (a b : Bool). a && not b) (sym begins-here) later-not-last
       ∙ go (ℕ-discrete (noted row first i) (suc i)) (ℕ-discrete (noted row last i) (suc i))
     where
       f : ℕ
@@ -180,16 +186,19 @@ abbrev pub NoneBefore : List ℕ → ℕ → Type 0
 NoneBefore row i = (j : ℕ) → j < i → lone row j ≡ false
 
 module _ (row first last : List ℕ) (t : Tabled row first last) (i : ℕ) (none : NoneBefore row i) where
-  -- the search stops where first and last are one ..
-  pub lone-found : i < length row → noted row first i ≡ noted row last i → i ≡ firstLone row
+  -- the search stops where first and last of a net are one ..
+  pub lone-found : i < length row → (getD row i 0 ≡ 255 → ⊥) → noted row first i ≡ noted row last i → i ≡ firstLone row
   unfolding firstLone
-  lone-found h e =
+  lone-found h n e =
       sym
-      (least-is (lone row) (length row) i (omega arith) (λ b. lone-one row first last t i h ∙ eq-eqb (noted row first i) (noted row last i) e) none)
+      (least-is (lone row) (length row) i (omega arith) (λ b. lone-one row first last t i h n ∙ eq-eqb (noted row first i) (noted row last i) e) none)
 
-  -- .. goes on where they are two ..
-  pub lone-past : i < length row → (noted row first i ≡ noted row last i → ⊥) → NoneBefore row (i + 1)
-  lone-past h n = below-more _ i none (lone-one row first last t i h ∙ ne-eqb (noted row first i) (noted row last i) n)
+  -- .. goes on where they are two, and at a blank ..
+  pub lone-past : i < length row → (getD row i 0 ≡ 255 → ⊥) → (noted row first i ≡ noted row last i → ⊥) → NoneBefore row (i + 1)
+  lone-past h n m = below-more _ i none (lone-one row first last t i h n ∙ ne-eqb (noted row first i) (noted row last i) m)
+
+  pub blank-past : i < length row → getD row i 0 ≡ 255 → NoneBefore row (i + 1)
+  blank-past h e = below-more _ i none (blank-not-lone row first last t i h e)
 
   -- .. and ends with the row
   pub lone-none : i ≡ length row → i ≡ firstLone row
@@ -205,11 +214,13 @@ alone-not f l h e = go (eqb f l) (rw (ne-eqb f 0 (λ z. omega arith)) at e)
     go true z = absurd (omega arith)
     go false z = refl
 
--- where no label has one node only no node is lone
-pub apart-none : (row first last : List ℕ) → Tabled row first last → ((i : ℕ) → getD row i 0 < 256) → Apart first last 256 → length row ≡ firstLone row
+-- where no label of a net has one node only no node is lone
+pub apart-none : (row first last : List ℕ) → Tabled row first last → ((i : ℕ) → getD row i 0 < 256) → Apart first last 255 → length row ≡ firstLone row
 apart-none row first last t byte a =
-    lone-none row first last t (length row)
-    (λ j h.
-    lone-one row first last t j h
-    ∙ alone-not (noted row first j) (noted row last j) (omega (arith, t .begins j h)) (a (getD row j 0) (byte j)))
-    refl
+    lone-none row first last t (length row) (λ j h. go j h (ℕ-discrete (getD row j 0) 255)) refl
+  where
+    go : (j : ℕ) → j < length row → Dec (getD row j 0 ≡ 255) → lone row j ≡ false
+    go j h (yes e) = blank-not-lone row first last t j h e
+    go j h (no n) =
+        lone-one row first last t j h n
+        ∙ alone-not (noted row first j) (noted row last j) (omega (arith, t .begins j h)) (a (getD row j 0) (omega (arith, byte j)))

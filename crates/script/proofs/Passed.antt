@@ -6,14 +6,14 @@ use Prim.Native.Nat.{ℕ, suc, _+_, _-_, _≤_, _<_}
 use native.Mathlib.Omega.{arith}
 use lib.ListN.{length, getD}
 use Rattle.rules.specs.Basic.{tabulate}
-use Rattle.rules.specs.Row.{before, B, M, E, Node, node, nodeAt, nodes}
-use Rattle.rules.specs.Street.{kind, counted, next, run}
+use Rattle.rules.specs.Row.{before, B, M, E, N, Node, node, nodeAt, nodes}
+use Rattle.rules.specs.Street.{kind, counted, last, next, run}
 use Rattle.rules.specs.Sheet.{code}
 use Rattle.rules.proofs.Lists.{length-put, length-cut}
-use Rattle.rules.proofs.Fits.{Fits}
+use Rattle.rules.proofs.Fits.{FitsAt}
 use Rattle.rules.proofs.Open.{onto}
 use Rattle.steps.specs.Plan.{Step, step, young, Tells, steps}
-use Rattle.script.proofs.Touched.{Kept, kept-none, kept-next, node-open, E-begins-not, From, from-nodes}
+use Rattle.script.proofs.Touched.{Kept, kept-none, kept-next, node-open, From, from-nodes}
 
 kindField : Step → ℕ
 kindField (step k a c) = k
@@ -26,13 +26,14 @@ fields (k ∷ kinds) a c = ap {B = List ℕ} (λ l. k ∷ l) (fields kinds (λ i
 module _ (row : List ℕ) (ku kl : ℕ) (six : ku + kl ≤ 6) where
   -- youngest first or top to bottom, as many nets are open after a node
   as-many : (i : ℕ) (h : i < length row) (n : Node) (y o : List ℕ) (p : ℕ) → n ≡ nodeAt row i → Kept row i y → length y ≡ length o
-      → Fits ku kl p (counted (kind n) (length o)) → length (young n y) ≡ length (next n o p)
-  unfolding young next kind counted
+      → FitsAt (kind n) ku kl p (counted (kind n) (length o)) → length (young n y) ≡ length (next n o p)
+  unfolding young next kind counted last
   as-many i h (node B x) y o p q kept e f = omega (arith, length-put (p - 1) x o)
   as-many i h (node M x) y o p q kept e f = e
   as-many i h (node E x) y o p q kept e f =
-      let there = node-open row i h y kept E x E-begins-not q in
+      let there = node-open row i h y kept E x (λ n. n) q in
       omega (arith, length-cut (before x y) y there, length-cut (p - 1) o (omega (arith, f .low, f .high)))
+  as-many i h (node N x) y o p q kept e f = e
 
   same-kinds : {i : ℕ} {ns : List Node} {y : List ℕ} {ss : List Step} → From row i ns → Kept row i y → Tells ns y ss
       → (o ps w : List ℕ) → length y ≡ length o → run ku kl ns o ps ≡ some w → map kindField ss ≡ map (λ n. code (kind n)) ns

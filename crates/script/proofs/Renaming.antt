@@ -3,7 +3,7 @@ use mathlib.Core.Path.{_≡_, refl, ap, _∙_}
 use mathlib.Core.List.{List, map}
 use Prim.Native.Nat.{ℕ}
 use Rattle.rules.specs.Basic.{cut}
-use Rattle.rules.specs.Row.{before, Kind, B, M, E, node}
+use Rattle.rules.specs.Row.{before, Kind, B, M, E, N, node}
 use Rattle.rules.proofs.Renamed.{cut-map, before-map, Only}
 use Rattle.steps.specs.Plan.{young, age}
 
@@ -13,9 +13,11 @@ module _ (f : ℕ → ℕ) (x : ℕ) (only : Only f x) where
   age-map B l = refl
   age-map M l = before-map f x only l
   age-map E l = before-map f x only l
+  age-map N l = refl
 
   pub young-map : (k : Kind) (l : List ℕ) → young (node k (f x)) (map f l) ≡ map f (young (node k x) l)
   unfolding young
   young-map B l = refl
   young-map M l = refl
   young-map E l = ap (λ (j : ℕ). cut j (map f l)) (before-map f x only l) ∙ cut-map f (before x l) l
+  young-map N l = refl

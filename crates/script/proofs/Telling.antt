@@ -11,7 +11,7 @@ use lib.Dec.{eqb}
 use borrow.Author.Tests.{eqb-true, eqb-false, eq-eqb, ne-eqb}
 use Rattle.rules.specs.Basic.{pick, cut, tabulate}
 use Rattle.rules.specs.Bits.{Below, nil, cons}
-use Rattle.rules.specs.Row.{before, home, later, Kind, B, M, E, Node, node, nodeAt, nodes, kindOf}
+use Rattle.rules.specs.Row.{before, blank, home, later, Kind, B, M, E, N, Node, node, nodeAt, nodes, kindOf}
 use Rattle.rules.specs.Street.{kind}
 use Rattle.rules.specs.Sheet.{code, kindIn}
 use Rattle.rules.proofs.Pins.{length-tabulate, getD-tabulate, tabulate-cong, before-found, home-le}
@@ -20,11 +20,11 @@ use Rattle.rules.proofs.Legal.{kindIn-code, code-lt}
 use Rattle.street.specs.Order.{capacity}
 use Rattle.steps.specs.Plan.{Step, step, young, age, Tells, steps}
 use Rattle.script.specs.Tabled.{noted, Tabled}
-use Rattle.script.specs.Told.{Turning, Turned, Cells, Told}
+use Rattle.script.specs.Told.{kindBy, Turning, Turned, Cells, Told}
 use Rattle.script.proofs.Noting.{begins-here, later-not-last}
 use Rattle.rules.proofs.Renamed.{home-only, before-map}
 use Rattle.script.proofs.Renaming.{age-map, young-map}
-use Rattle.script.proofs.Touched.{Kept, kept-none, kept-next, node-open, M-begins-not, E-begins-not}
+use Rattle.script.proofs.Touched.{by-home, Kept, kept-none, kept-next, touched-open}
 
 -- ---- nodes one by one
 
@@ -172,7 +172,7 @@ above-absent x (cons {x = y} b r) = rw (ne-eqb y x (λ e. omega arith)) (omega (
 
 module _ (row first last kinds ages counts l : List ℕ) (i k b : ℕ) (tabled : Tabled row first last) (few : length row ≤ 512)
     (t : Telling row kinds ages counts l i) (h : i < length row) (long : length l ≡ b)
-    (told : k ≡ code (kindOf (eqb (noted row first i) (suc i)) (not (eqb (noted row last i) (suc i))))) where
+    (told : k ≡ kindBy (getD row i 0) (noted row first i) (noted row last i) (suc i)) where
   x : ℕ
   x = getD row i 0
 
@@ -180,14 +180,20 @@ module _ (row first last kinds ages counts l : List ℕ) (i k b : ℕ) (tabled :
   o = homes row l
 
   kind-told : k ≡ code (kind (nodeAt row i))
-  unfolding nodeAt kind
-  kind-told =
-      told ∙ ap₂ (λ (b l : Bool). code (kindOf b l)) (begins-here row first last tabled i h) (sym (later-not-last row first last tabled i h))
+  unfolding kindBy blank nodeAt pick kind
+  kind-told = told ∙ go (blank row i)
+    where
+      go : (t : Bool)
+          → code (pick t N (kindOf (eqb (noted row first i) (suc i)) (not (eqb (noted row last i) (suc i)))))
+          ≡ code (kind (pick t (node N i) (node (kindOf (eqb (home row i) i) (later row i)) (home row i))))
+      go true = refl
+      go false =
+          ap₂ (λ (b l : Bool). code (kindOf b l)) (begins-here row first last tabled i h) (sym (later-not-last row first last tabled i h))
 
   kind-in : kindIn k ≡ kind (nodeAt row i)
   kind-in = ap kindIn kind-told ∙ kindIn-code (kind (nodeAt row i))
 
-  kind-small : k < 3
+  kind-small : k < 4
   kind-small = omega (arith, kind-told, code-lt (kind (nodeAt row i)))
 
   begins : k ≡ 0 → kind (nodeAt row i) ≡ B
@@ -214,31 +220,37 @@ module _ (row first last kinds ages counts l : List ℕ) (i k b : ℕ) (tabled :
       go false p = omega (arith, eqb-false b capacity p)
 
   -- a net that begins here has its first node here
-  own-home : kind (nodeAt row i) ≡ B → home row i ≡ i
-  unfolding nodeAt kind kindOf
-  own-home = go (eqb (home row i) i) refl
+  own-home : k ≡ 0 → home row i ≡ i
+  unfolding nodeAt pick kind kindOf code
+  own-home e = go (blank row i) (eqb (home row i) i) (later row i) refl (sym kind-told ∙ e)
     where
-      later-begins-not : (b : Bool) → kindOf false b ≡ B → ⊥
-      later-begins-not true e = M-begins-not e
-      later-begins-not false e = E-begins-not e
+      go : (t f l : Bool) → eqb (home row i) i ≡ f → code (kind (pick t (node N i) (node (kindOf f l) (home row i)))) ≡ 0 → home row i ≡ i
+      go true f l p e = absurd (omega arith)
+      go false true l p e = eqb-true (home row i) i p
+      go false false true p e = absurd (omega arith)
+      go false false false p e = absurd (omega arith)
 
-      go : (f : Bool) → eqb (home row i) i ≡ f → kindOf f (later row i) ≡ B → home row i ≡ i
-      go true p e = eqb-true (home row i) i p
-      go false p e = absurd (later-begins-not (later row i) e)
+  -- and one that goes on or ends is open
+  own-open : 0 < k → k < 3 → before (home row i) o < length o
+  unfolding o nodeAt pick kind kindOf code
+  own-open low high = go (blank row i) (eqb (home row i) i) refl refl kind-told
+    where
+      go : (t f : Bool) → blank row i ≡ t → eqb (home row i) i ≡ f
+          → k ≡ code (kind (pick t (node N i) (node (kindOf f (later row i)) (home row i)))) → before (home row i) o < length o
+      go true f p q e = absurd (omega arith)
+      go false true p q e = absurd (omega arith)
+      go false false p q e = touched-open row i h o (t .going .kept) p q
 
   -- what a node asks of the open nets
   pub telling-turning : Turning l k (getD row i 0)
-  unfolding x o home nodeAt kind
+  unfolding x o home
   telling-turning =
       record {
         fresh = λ e.
-            let own : before x row ≡ i = own-home (begins e) in
+            let own : before x row ≡ i = own-home e in
             let q : length o ≤ before (before x row) o = above-absent (before x row) (below-mono (omega arith) (t .begun)) in
             omega (arith, q, length-o, before-map (λ y. before y row) x only l);
-        there = λ n.
-            let q : before (home row i) o < length o =
-            node-open row i h o (t .going .kept) (kind (nodeAt row i)) (home row i) (λ e. n (begun e)) refl in
-            omega (arith, q, length-o, before-map (λ y. before y row) x only l);
+        there = λ low high. omega (arith, own-open low high, length-o, before-map (λ y. before y row) x only l);
       }
 
   still-begun : (K : Kind) → Below (suc i) (young (node K (home row i)) o)
@@ -246,19 +258,29 @@ module _ (row first last kinds ages counts l : List ℕ) (i k b : ℕ) (tabled :
   still-begun B = cons {x = home row i} (omega (arith, home-le row i h)) (below-mono (omega arith) (t .begun))
   still-begun M = below-mono (omega arith) (t .begun)
   still-begun E = below-cut (before (home row i) o) (below-mono (omega arith) (t .begun))
+  still-begun N = below-mono (omega arith) (t .begun)
+
+  -- a blank's age is 0 whatever it is known by, and it leaves the open nets as they are
+  age-home : age (nodeAt row i) o ≡ age (node (kind (nodeAt row i)) (home row i)) o
+  unfolding age
+  age-home = by-home (λ n. age n o) (λ y z. refl) row i
+
+  young-home : young (nodeAt row i) o ≡ young (node (kind (nodeAt row i)) (home row i)) o
+  unfolding young
+  young-home = by-home (λ n. young n o) (λ y z. refl) row i
 
   -- a node on
   pub telling-more : b ≤ capacity → (eqb k 0 && eqb b capacity) ≡ false → (a : ℕ) (next : List ℕ) → Turned l k (getD row i 0) a next
       → Telling row (set kinds i k) (set ages i a) (set counts i b) next (suc i)
-  unfolding x o home nodeAt kind
+  unfolding x o home
   telling-more most test a next turned =
       let f : ℕ → ℕ = λ y. before y row in
       let K : Kind = kind (nodeAt row i) in
       let g = going-more row (toldTo kinds ages counts i) i o (t .going) h (λ e. omega (arith, length-o, room most test (begun e))) in
       let aged : a ≡ age (nodeAt row i) o =
-      turned .aged ∙ ap (λ (j : Kind). age (node j x) l) kind-in ∙ sym (age-map f x only K l) in
+      turned .aged ∙ ap (λ (j : Kind). age (node j x) l) kind-in ∙ sym (age-map f x only K l) ∙ sym age-home in
       let opened : young (nodeAt row i) o ≡ homes row next =
-      young-map f x only K l ∙ ap (λ (j : Kind). map f (young (node j x) l)) (sym kind-in) ∙ ap (map f) (sym (turned .list)) in
+      young-home ∙ young-map f x only K l ∙ ap (λ (j : Kind). map f (young (node j x) l)) (sym kind-in) ∙ ap (map f) (sym (turned .list)) in
       let done : toldTo kinds ages counts i ++ (step (code K) (age (nodeAt row i) o) (length o) ∷ [])
       ≡ toldTo (set kinds i k) (set ages i a) (set counts i b) (suc i) =
       ap (λ (s : Step). toldTo kinds ages counts i ++ (s ∷ [])) (step-same (sym kind-told) (sym aged) length-o)
@@ -272,7 +294,7 @@ module _ (row first last kinds ages counts l : List ℕ) (i k b : ℕ) (tabled :
               count-cells = length-set counts i b ∙ t .cells .count-cells;
               small = below-set i k kind-small (t .cells .small);
             };
-        begun = subst (λ (m : List ℕ). Below (suc i) m) opened (still-begun K);
+        begun = subst (λ (m : List ℕ). Below (suc i) m) (sym young-home ∙ opened) (still-begun K);
         going = subst₂ (λ (d : List Step) (m : List ℕ). Going row d (suc i) m) done opened g;
       }
 

@@ -1,4 +1,4 @@
--- Tables that hold, by label, the first and the last node of a row's nets, counted from 1.
+-- Tables that hold, by label, the first and the last node of a row that carries it, counted from 1.
 use mathlib.Core.Path.{_≡_}
 use mathlib.Core.List.{List}
 use Prim.Native.Nat.{ℕ, suc, _-_, _≤_, _<_}
@@ -25,7 +25,7 @@ pub record Lasts (row : List ℕ) (k : ℕ) (table : List ℕ) : Type 0 where
   pub within : (i : ℕ) → i < k → noted row table i ≤ k
   pub same : (i : ℕ) → i < k → getD row (noted row table i - 1) 0 ≡ getD row i 0
 
--- the tables of a row: at the label of node i, the first node of its net, and the last
+-- the tables of a row: at the label of node i, the first node that carries it, and the last
 pub record Tabled (row first last : List ℕ) : Type 0 where
   pub firsts : length first ≡ 256
   pub begins : (i : ℕ) → i < length row → noted row first i ≡ suc (home row i)

@@ -1,13 +1,13 @@
 -- The plan that is told of a row, and what a node does to the labels of the open nets that it is told from.
 use mathlib.Core.Path.{_≡_}
-use mathlib.Core.Bool.{Bool, false, _&&_}
+use mathlib.Core.Bool.{Bool, false, not, _&&_}
 use mathlib.Core.List.{List, [], _∷_}
 use Prim.Native.Nat.{ℕ, zero, suc, _-_, _≤_, _<_}
 use lib.ListN.{length, getD, take}
 use lib.Dec.{eqb}
-use Rattle.rules.specs.Basic.{cut}
-use Rattle.rules.specs.Row.{before, node, nodes}
-use Rattle.rules.specs.Sheet.{kindIn}
+use Rattle.rules.specs.Basic.{pick, cut}
+use Rattle.rules.specs.Row.{before, N, node, nodes, kindOf}
+use Rattle.rules.specs.Sheet.{code, kindIn}
 use Rattle.rules.specs.Bits.{Below}
 use Rattle.street.specs.Order.{capacity}
 use Rattle.steps.specs.Plan.{young, age, Tells, steps}
@@ -30,10 +30,14 @@ pub record Closed (nets : List ℕ) (e b : ℕ) (nets′ elders′ : List ℕ) :
   pub lines : Lined nets′ elders′ b
   pub list : lined nets′ b ≡ cut (b - e) (lined nets (suc b))
 
--- a node that begins a net finds its label among those of no open net, and any other finds its own there
+-- the kind field of node i with label x, by the first and the last node that carry it
+unfoldable pub kindBy : (x first last i : ℕ) → ℕ
+kindBy x first last i = code (pick (eqb x 255) N (kindOf (eqb first i) (not (eqb last i))))
+
+-- a node that begins a net finds its label among those of no open net, and one that goes on with a net or ends it finds its own there
 pub record Turning (o : List ℕ) (kind x : ℕ) : Type 0 where
   pub fresh : kind ≡ 0 → length o ≤ before x o
-  pub there : (kind ≡ 0 → ⊥) → before x o < length o
+  pub there : 0 < kind → kind < 3 → before x o < length o
 
 -- the age of the node's net, and the open nets after it
 pub record Turned (o : List ℕ) (kind x a : ℕ) (next : List ℕ) : Type 0 where
@@ -52,7 +56,7 @@ pub record Cells (kinds ages counts : List ℕ) : Type 0 where
   pub kind-cells : length kinds ≡ 512
   pub age-cells : length ages ≡ 512
   pub count-cells : length counts ≡ 512
-  pub small : Below 3 kinds
+  pub small : Below 4 kinds
 
 -- three arrays hold the plan of a row
 pub record Told (row kinds ages counts : List ℕ) : Type 0 where

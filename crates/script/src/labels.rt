@@ -1,4 +1,4 @@
-// The first and the last node of each label of a row, and the first label that stands at one node only.
+// The first and the last node of each label of a row, and the first label of a net that stands at one node only.
 ghost use mathlib.Core.Path.{_≡_};
 ghost use Prim.Native.Nat.{_≤_};
 ghost use lib.ListN.{length};
@@ -14,7 +14,7 @@ pub fn scan(row: &[u8], first: &mut [u16; 256], last: &mut [u16; 256])
     lasts(row, last);
 }
 
-// The first node, from 0, whose label stands at no other; the number of nodes where there is none.
+// The first node, from 0, that is no blank and whose label stands at no other; the number of nodes where there is none.
 pub fn lone<'a>(row: &[u8], first: &'a [u16; 256], last: &'a [u16; 256]) -> usize
     requires { ⌜ Tabled (now row) (now first) (now last) ⌝ }
     ensures { λ r. ⌜ r ≡ firstLone (now (row .entry)) ⌝ }
@@ -25,14 +25,14 @@ pub fn lone<'a>(row: &[u8], first: &'a [u16; 256], last: &'a [u16; 256]) -> usiz
     first_lone(row, first, last)
 }
 
-// 0 only if no label has one node only. It goes through all labels without a branch, so that eight are taken at a time. A label that does not occur is not counted
-// where its entries are 0, so that a row of which no label is lone need not be gone through.
+// 0 only if no label of a net has one node only. It goes through 0 to 254, the labels of nets, without a branch, so that eight are taken at a time. A label that
+// does not occur is not counted where its entries are 0, so that a row of which no label is lone need not be gone through.
 fn lone_labels<'a>(first: &'a [u16; 256], last: &'a [u16; 256]) -> u16
-    ensures { λ r. ⌜ (r ≡ 0 → Apart (now (first .entry)) (now (last .entry)) 256) ⌝ }
+    ensures { λ r. ⌜ (r ≡ 0 → Apart (now (first .entry)) (now (last .entry)) 255) ⌝ }
 {
     let mut count: u16 = 0;
     let mut x = 0;
-    while x < 256 {
+    while x < 255 {
         count += one_node(first[x], last[x]);
         x += 1;
     }
@@ -60,7 +60,7 @@ fn first_lone<'a>(row: &[u8], first: &'a [u16; 256], last: &'a [u16; 256]) -> us
     let mut i = 0;
     while i < row.len() {
         let x = row[i] as usize;
-        if first[x] == last[x] {
+        if x != 255 && first[x] == last[x] {
             return i;
         }
         i += 1;

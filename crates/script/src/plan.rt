@@ -1,13 +1,9 @@
 // The plan of a row: for each node its kind field, the age of its net, and how many nets are open before it.
 use street::CAPACITY;
-ghost use mathlib.Core.Bool.{not};
 ghost use Prim.Native.Nat.{suc, _≤_, _<_};
-ghost use lib.Dec.{eqb};
 ghost use lib.ListN.{length};
-ghost use Rattle.rules.specs.Row.{kindOf};
-ghost use Rattle.rules.specs.Sheet.{code};
 ghost use Rattle.script.specs.Tabled.{Tabled};
-ghost use Rattle.script.specs.Told.{lined, Lined, Closed, Turning, Turns, Cells, Told};
+ghost use Rattle.script.specs.Told.{lined, Lined, Closed, kindBy, Turning, Turns, Cells, Told};
 
 // Fills the plan of a row, by its label tables: a cell for each node that a row can have. Cells past the row's nodes are free, and so are those past a node that
 // begins a seventh open net: no order gets past it.
@@ -51,9 +47,9 @@ struct Turn {
     count: usize,
 }
 
-// Node i, from 0, of the net with label x, whose first and last node, from 1, are these. The labels of the b open nets stand in `nets`, oldest first, and
-// `elders` has for each how many are older, so that a net is found by its label at once. A branch for each kind takes fewer instructions than a kind that is
-// computed first.
+// Node i, from 0, with label x, whose first and last node, from 1, are these. The labels of the b open nets stand in `nets`, oldest first, and `elders` has for
+// each how many are older, so that a net is found by its label at once; a blank leaves both as they are. A branch for each kind takes fewer instructions than a
+// kind that is computed first.
 fn turn_at(
     nets: &mut [u8; CAPACITY],
     elders: &mut [u8; 256],
@@ -64,9 +60,17 @@ fn turn_at(
     x: u8,
 ) -> Turn
     requires { ⌜ Lined (now nets) (now elders) b × (i < 512) ⌝ }
-    requires { ⌜ Turning (lined (now nets) b) (code (kindOf (eqb first (suc i)) (not (eqb last (suc i))))) x ⌝ }
-    ensures { λ r. ⌜ Turns (now (nets .entry)) b (code (kindOf (eqb first (suc i)) (not (eqb last (suc i))))) x (r .kind) (r .full) (r .age) (now (nets .exit)) (now (elders .exit)) (r .count) ⌝ }
+    requires { ⌜ Turning (lined (now nets) b) (kindBy x first last (suc i)) x ⌝ }
+    ensures { λ r. ⌜ Turns (now (nets .entry)) b (kindBy x first last (suc i)) x (r .kind) (r .full) (r .age) (now (nets .exit)) (now (elders .exit)) (r .count) ⌝ }
 {
+    if x == 255 {
+        return Turn {
+            kind: 3,
+            full: false,
+            age: 0,
+            count: b,
+        };
+    }
     let node = i + 1;
     if first as usize == node {
         return begin(nets, elders, b, x);

@@ -34,19 +34,19 @@ pub fn put_field(s: &mut [u8], base: usize, i: usize, width: usize, v: usize) {
     }
 }
 
-fn bit(s: &[u8], i: usize) -> usize {
-    if num(s, 0, i / 8) & weight(i) == 0 {
+fn bit(s: &[u8], base: usize, i: usize) -> usize {
+    if num(s, base, i / 8) & weight(i) == 0 {
         0
     } else {
         1
     }
 }
 
-// The field of `width` bits at place `i`.
-pub fn field(s: &[u8], i: usize, width: usize) -> usize {
+// The field of `width` bits at place `i` of a part.
+pub fn field(s: &[u8], base: usize, i: usize, width: usize) -> usize {
     let mut v = 0;
     for k in 0..width {
-        v = plus(plus(v, v), bit(s, plus(i, k)));
+        v = plus(plus(v, v), bit(s, base, plus(i, k)));
     }
     v
 }

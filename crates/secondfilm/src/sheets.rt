@@ -8,6 +8,11 @@ use secondrouter::cells::clear;
 use secondrouter::cells::less;
 use secondrouter::cells::num;
 use secondrouter::cells::plus;
+use secondrouter::cells::smaller;
+use secondrouter::nets::BLANK;
+use secondrouter::nets::FIRST;
+use secondrouter::nets::LAST;
+use secondrouter::nets::if_kind;
 
 // 90 bytes for each node.
 pub fn work_need(n: usize) -> usize {
@@ -41,9 +46,18 @@ pub fn pack(store: &mut [u8], n: usize, pair: usize) {
     }
 }
 
-// The level, with 4 added, of the wire at position `q` at a node whose own wire has position `p`: document 01's table is the smaller of p + 1 and Ku.
-fn level(ku: usize, p: usize, q: usize) -> usize {
-    let u = if p < ku { plus(p, 1) } else { ku };
+// How many wires node `i` has in the upper street: document 01's table is the smaller of p + 1 and Ku; at a blank all that are above it.
+fn upper(store: &[u8], i: usize, ku: usize) -> usize {
+    let p = num(store, PLACES, i);
+    if num(store, KINDS, i) == BLANK {
+        return p;
+    }
+    smaller(plus(p, 1), ku)
+}
+
+// The level, with 4 added, of the wire at position `q` at node `i`.
+pub fn level(store: &[u8], i: usize, q: usize, ku: usize) -> usize {
+    let u = upper(store, i, ku);
     if q < u {
         return plus(4, u - q);
     }
@@ -63,25 +77,30 @@ fn position(store: &[u8], i: usize, g: usize, kind: usize) -> usize {
 
 // The level at node `i` of the wire at position `g` of a gap beside it.
 fn gap_level(store: &[u8], i: usize, g: usize, kind: usize, ku: usize) -> usize {
-    level(ku, num(store, PLACES, i), position(store, i, g, kind))
+    level(store, i, position(store, i, g, kind), ku)
+}
+
+// The level at which the wire at position `g` of the gap after node `i` leaves that node.
+pub fn leaves(store: &[u8], i: usize, g: usize, ku: usize) -> usize {
+    gap_level(store, i, g, LAST, ku)
+}
+
+// The level at which it comes to the next node.
+pub fn arrives(store: &[u8], i: usize, g: usize, ku: usize) -> usize {
+    gap_level(store, plus(i, 1), g, FIRST, ku)
 }
 
 // 2 if the wire at position `g` of the gap after node `i` moves there: a vertical, and one horizontal more; else 0.
 fn added(store: &[u8], i: usize, g: usize, ku: usize) -> usize {
-    if gap_level(store, i, g, 2, ku) == gap_level(store, plus(i, 1), g, 0, ku) {
+    if leaves(store, i, g, ku) == arrives(store, i, g, ku) {
         return 0;
     }
     2
 }
 
 // How many nets are open after node `i`.
-fn open_after(store: &[u8], i: usize) -> usize {
-    let b = num(store, OPENS, i);
-    if num(store, KINDS, i) == 2 {
-        less(b, 1)
-    } else {
-        b
-    }
+pub fn open_after(store: &[u8], i: usize) -> usize {
+    less(num(store, OPENS, i), if_kind(num(store, KINDS, i), LAST))
 }
 
 fn added_in_gap(store: &[u8], i: usize, ku: usize) -> usize {
@@ -92,10 +111,16 @@ fn added_in_gap(store: &[u8], i: usize, ku: usize) -> usize {
     count
 }
 
-// How many records the film of the row's placing has: a stub for each node, a horizontal for each net, and two for each move.
+// 1 for the stub of a node, 0 at a blank, which has none.
+fn stub(store: &[u8], i: usize) -> usize {
+    less(1, if_kind(num(store, KINDS, i), BLANK))
+}
+
+// How many records the film of the placing has: a stub for each node of a net, a horizontal for each net, and two for each move.
 pub fn records(store: &[u8], n: usize, nets: usize, pair: usize) -> usize {
-    let mut count = plus(n, nets);
+    let mut count = nets;
     for i in 0..n {
+        count = plus(count, stub(store, i));
         count = plus(count, added_in_gap(store, i, pair / 4));
     }
     count

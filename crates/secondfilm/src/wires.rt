@@ -1,4 +1,4 @@
-// Document 01's wire rules, tested point by point on a film's records.
+// Document 01's wire rules, tested point by point on a film's records; and that no record comes to a blank's pin.
 use crate::fields::field;
 use secondrouter::cells::KINDS;
 use secondrouter::cells::MARKS;
@@ -13,22 +13,25 @@ use secondrouter::cells::plus;
 use secondrouter::cells::set;
 use secondrouter::cells::set_word;
 use secondrouter::cells::word;
+use secondrouter::nets::BLANK;
 
 // What is kept of a point: a record goes on to the right, one goes on upward, the walk came here, a net has it.
-const RIGHT: usize = 1;
+pub const RIGHT: usize = 1;
 
-const UP: usize = 2;
+pub const UP: usize = 2;
 
 const REACHED: usize = 4;
 
 const OWNED: usize = 8;
 // Levels −4 to 4 stand at 0 to 8, so the pins at 4.
-const AXIS: usize = 4;
+pub const AXIS: usize = 4;
 
 const POINTS: usize = 73728;
+// What stands for the number of points where a rule is broken: no film has so many.
+pub const BROKEN: usize = 99999;
 
 // The place of a point.
-fn point(column: usize, level: usize) -> usize {
+pub fn point(column: usize, level: usize) -> usize {
     if 8191 < column {
         return POINTS;
     }
@@ -144,11 +147,11 @@ fn vertical(
 
 // Lays the record that begins at a bit of the film; false if it breaks a rule.
 fn lay(store: &mut [u8], film: &[u8], bit: usize, last: usize, pair: usize) -> bool {
-    let net = field(film, plus(bit, 1), 8);
-    let level = field(film, plus(bit, 9), 4);
-    let column = field(film, plus(bit, 13), 13);
-    let rest = field(film, plus(bit, 26), 14);
-    match field(film, bit, 1) {
+    let net = field(film, 0, plus(bit, 1), 8);
+    let level = field(film, 0, plus(bit, 9), 4);
+    let column = field(film, 0, plus(bit, 13), 13);
+    let rest = field(film, 0, plus(bit, 26), 14);
+    match field(film, 0, bit, 1) {
         0 => horizontal(store, last, pair, net, level, column, rest),
         _ => vertical(store, last, pair, net, level, column, rest),
     }
@@ -235,13 +238,16 @@ fn starts(store: &mut [u8], words: &mut [usize], n: usize) -> usize {
 }
 
 fn is_joined(store: &[u8], i: usize) -> bool {
+    if num(store, KINDS, i) == BLANK {
+        return num(store, STEPS, pin(i)) & OWNED == 0;
+    }
     if num(store, OWNER, pin(i)) != num(store, NUMBERS, i) {
         return false;
     }
     num(store, STEPS, pin(i)) & (REACHED + OWNED) == REACHED + OWNED
 }
 
-// Whether the walk came to every pin, each a point of its own net.
+// Whether the walk came to every pin of a net, each a point of its own net, and no record came to a blank's.
 fn all_joined(store: &[u8], n: usize) -> bool {
     for i in 0..n {
         if !is_joined(store, i) {
@@ -282,13 +288,13 @@ fn clear_marks(words: &mut [usize]) {
     }
 }
 
-// How many of the first `end` points nets have, column by column; 0 if one is not sound.
+// How many of the first `end` points nets have, column by column; `BROKEN` if one is not sound.
 fn count_points(store: &[u8], words: &mut [usize], end: usize) -> usize {
     let mut count = 0;
     for a in 0..end {
         let k = sound(store, words, a);
         if k == 2 {
-            return 0;
+            return BROKEN;
         }
         count = plus(count, k);
     }
@@ -306,8 +312,18 @@ fn join(store: &mut [u8], words: &mut [usize], n: usize) {
     walk(store, words, top);
 }
 
-// Tests all wire rules on a film of `records` records of the row's placing, and returns how many points they have; 0 if a rule is broken.
-// A piece that joins no pin is a fault too.
+// The place behind the last point of a film of `n` nodes.
+pub fn end_of(n: usize) -> usize {
+    point(plus(last_column(n), 1), 0)
+}
+
+// The column of the last of `n` pins.
+fn last_column(n: usize) -> usize {
+    pin(less(n, 1)) / 9
+}
+
+// Tests all wire rules on a film of `records` records of the placing, and returns how many points they have; `BROKEN` if a rule is broken.
+// A piece that joins no pin is a fault too. Blanks alone have no records and no points.
 pub fn points(
     store: &mut [u8],
     words: &mut [usize],
@@ -316,15 +332,15 @@ pub fn points(
     n: usize,
     pair: usize,
 ) -> usize {
-    let last = pin(less(n, 1)) / 9;
-    let end = point(plus(last, 1), 0);
+    let last = last_column(n);
+    let end = end_of(n);
     clear_points(store, end);
     if !lay_all(store, film, records, last, pair) {
-        return 0;
+        return BROKEN;
     }
     join(store, words, n);
     if !all_joined(store, n) {
-        return 0;
+        return BROKEN;
     }
     count_points(store, words, end)
 }

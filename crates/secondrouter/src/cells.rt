@@ -1,7 +1,8 @@
 // One store of bytes and one of words hold all that the second router works on: where each part begins, and reads and writes that test
 // their place themselves.
 
-// Parts of the store, a byte for each node: labels, kinds, open nets, positions, positions of another search, net numbers, and a sheet.
+// Parts of the store, a byte for each node: labels, kinds, open nets, positions, positions of another search, net numbers, and a sheet. The position of a
+// blank is the number of wires above it.
 pub const ROW: usize = 0;
 
 pub const KINDS: usize = 640;
@@ -15,11 +16,11 @@ pub const OTHERS: usize = 2560;
 pub const NUMBERS: usize = 3200;
 
 pub const OWN: usize = 3840;
-// For the making of rows: the order of open nets, and the labels in use.
+// For the making of rows, and for sheets: the order of open nets; and the labels in use.
 pub const ORDER: usize = 4480;
 
 pub const USED: usize = 4544;
-// A byte for each point of a film, twice, the layers of orders, and the sheet that the library wrote.
+// A byte for each point of a film, twice, the layers of orders, and the sheet that the library wrote or is given.
 pub const STEPS: usize = 4800;
 
 pub const OWNER: usize = 78528;
@@ -27,13 +28,24 @@ pub const OWNER: usize = 78528;
 pub const LAYERS: usize = 152256;
 
 pub const SHEET: usize = 2372736;
-// Parts of the words, behind 80 that are the caller's: the sizes of layers, a mark for each net, and a list of points.
+// Parts of the words, behind 80 that are the caller's: the sizes of layers, a mark for each net, and a list of points. Those from 864 to 1023 are the caller's too.
 
 pub const SIZES: usize = 80;
 
 pub const MARKS: usize = 600;
 
 pub const STACK: usize = 1024;
+
+// An answer is kept as its number times 100,000, and its place.
+pub const NUMBER: usize = 100000;
+
+// A number and a place as one.
+pub fn answer(number: usize, place: usize) -> usize {
+    if 1000 < number {
+        return 0;
+    }
+    plus(number * NUMBER, place)
+}
 
 pub fn plus(a: usize, b: usize) -> usize {
     std::num::wrapping_add_usize(a, b)
@@ -73,6 +85,14 @@ pub fn set_word(s: &mut [usize], base: usize, i: usize, v: usize) {
     if k < s.len() {
         s[k] = v;
     }
+}
+
+pub fn smaller(a: usize, b: usize) -> usize {
+    if b < a { b } else { a }
+}
+
+pub fn larger(a: usize, b: usize) -> usize {
+    if a < b { b } else { a }
 }
 
 // Puts 0 into `n` bytes.

@@ -5,17 +5,20 @@ use crate::cells::OPENS;
 use crate::cells::PLACES;
 use crate::cells::ROW;
 use crate::cells::carry;
+use crate::cells::larger;
 use crate::cells::less;
 use crate::cells::num;
 use crate::cells::plus;
 use crate::cells::set;
+use crate::lists::SPENT;
+use crate::lists::fewest;
 use crate::lists::find;
 use crate::lists::fits;
 use crate::lists::insert;
 use crate::lists::remove;
+use crate::nets::BLANK;
+use crate::nets::FIRST;
 
-// What stands for a position where none is left, and for a node where no choice is.
-const SPENT: usize = 255;
 // No row of nine nodes takes as many turns.
 const TURNS: usize = 1000000;
 
@@ -48,15 +51,26 @@ fn pass(store: &mut [u8], i: usize, kind: usize, b: usize, p: usize) {
     let into = stretch(plus(i, 1));
     match kind {
         0 => insert(store, a, into, b, p, num(store, ROW, i)),
-        1 => carry(store, a, into, 0, b),
-        _ => remove(store, a, into, b, p),
+        2 => remove(store, a, into, b, p),
+        _ => carry(store, a, into, 0, b),
     }
+}
+
+// The one number of wires above a blank, where it was not tried: another would leave the order as it is.
+fn only_above(from: usize, b: usize, pair: usize) -> usize {
+    if from != 0 {
+        return SPENT;
+    }
+    fewest(b, pair)
 }
 
 // The next position at node `i`, from `from` on.
 fn next(store: &[u8], i: usize, kind: usize, b: usize, from: usize, pair: usize) -> usize {
-    if kind == 0 {
+    if kind == FIRST {
         return choice(from, b, pair);
+    }
+    if kind == BLANK {
+        return only_above(from, b, pair);
     }
     only_choice(
         from,
@@ -101,8 +115,4 @@ pub fn search(store: &mut [u8], n: usize, pair: usize) -> usize {
         }
     }
     TURNS
-}
-
-fn larger(a: usize, b: usize) -> usize {
-    if a < b { b } else { a }
 }

@@ -11,6 +11,8 @@ use crate::cells::plus;
 use crate::cells::set;
 use crate::cells::set_word;
 use crate::cells::word;
+use crate::lists::SPENT;
+use crate::lists::fewest;
 use crate::lists::find;
 use crate::lists::fits;
 use crate::lists::insert;
@@ -105,7 +107,16 @@ fn remove_one(
     plus(made, 1)
 }
 
-// What the order at `a` gives to the next layer: `x` goes in (0), stays (1) or comes out (2). `b` nets are open at the node.
+// The order at `a` itself, if its `b` wires find a way past a blank.
+fn go_round(store: &mut [u8], a: usize, into: usize, made: usize, b: usize, pair: usize) -> usize {
+    if fewest(b, pair) == SPENT {
+        return made;
+    }
+    carry(store, a, slot(into, made), 0, b);
+    plus(made, 1)
+}
+
+// What the order at `a` gives to the next layer: `x` goes in (0), stays (1) or comes out (2), or all go round a blank (3). `b` nets are open at the node.
 fn give(
     store: &mut [u8],
     a: usize,
@@ -119,7 +130,8 @@ fn give(
     match act {
         0 => insert_each(store, a, into, made, x, b, pair),
         1 => keep(store, a, into, made, x, b, pair),
-        _ => remove_one(store, a, into, made, x, b, pair),
+        2 => remove_one(store, a, into, made, x, b, pair),
+        _ => go_round(store, a, into, made, b, pair),
     }
 }
 
@@ -164,6 +176,15 @@ fn failing(store: &mut [u8], n: usize, pair: usize) -> usize {
     0
 }
 
+// What a node of a kind does where the row is gone through from its end: a last node opens its net, a first one closes it.
+fn turned(kind: usize) -> usize {
+    match kind {
+        0 => 2,
+        2 => 0,
+        _ => kind,
+    }
+}
+
 // Lists, from the last node back, the orders that the rest of the row can be completed from.
 fn complete(store: &mut [u8], words: &mut [usize], n: usize, pair: usize) {
     let mut count = 1;
@@ -175,7 +196,7 @@ fn complete(store: &mut [u8], words: &mut [usize], n: usize, pair: usize) {
             layer(n - back),
             count,
             layer(i),
-            less(2, num(store, KINDS, i)),
+            turned(num(store, KINDS, i)),
             i,
             pair,
         );
@@ -228,7 +249,8 @@ fn place(store: &mut [u8], i: usize, count: usize, pair: usize) -> usize {
     match num(store, KINDS, i) {
         0 => place_first(store, i, count, x, b, pair),
         1 => find(store, PLACING, b, x),
-        _ => place_last(store, x, b),
+        2 => place_last(store, x, b),
+        _ => fewest(b, pair),
     }
 }
 

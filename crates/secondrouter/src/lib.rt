@@ -1,4 +1,4 @@
-// A second router, written from document 01 alone: what ours is tested against.
+// A second router, written from documents 01 and 02 alone: what ours is tested against.
 pub mod cells;
 pub mod depth;
 pub mod layers;

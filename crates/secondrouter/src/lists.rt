@@ -6,6 +6,9 @@ use crate::cells::num;
 use crate::cells::plus;
 use crate::cells::set;
 
+// What stands for a position where none is left.
+pub const SPENT: usize = 255;
+
 // The three limits of document 01 for the net at position `p` of `b`; `pair` is 4 Ku + Kl.
 pub fn fits(p: usize, b: usize, pair: usize) -> bool {
     let ku = pair / 4;
@@ -20,6 +23,27 @@ pub fn fits(p: usize, b: usize, pair: usize) -> bool {
         return false;
     }
     b <= plus(ku, kl)
+}
+
+// Whether `s` of `b` open wires can pass above a blank and the others below it; `pair` is 4 Ku + Kl.
+pub fn passes_blank(s: usize, b: usize, pair: usize) -> bool {
+    if b < s {
+        return false;
+    }
+    if pair / 4 < s {
+        return false;
+    }
+    b - s <= pair % 4
+}
+
+// The fewest of `b` open wires that can pass above a blank; 255 if they find no way past it.
+pub fn fewest(b: usize, pair: usize) -> usize {
+    for s in 0..plus(b, 1) {
+        if passes_blank(s, b, pair) {
+            return s;
+        }
+    }
+    SPENT
 }
 
 // The position of `x` among the `b` labels at `a`; `b` if it is not there.

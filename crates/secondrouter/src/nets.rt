@@ -1,4 +1,5 @@
-// What a row says of its nodes: kinds, lone labels, open nets, and the nets' numbers. Nodes count from 0 here.
+// What a row says of its nodes: kinds, lone labels, open nets, and the nets' numbers. Nodes count from 0 here. A node with the label 255 is a blank of
+// request 1: it stands in no net.
 use crate::cells::KINDS;
 use crate::cells::NUMBERS;
 use crate::cells::OPENS;
@@ -14,22 +15,26 @@ pub const INNER: usize = 1;
 
 pub const LAST: usize = 2;
 
-pub const LONE: usize = 3;
+pub const BLANK: usize = 3;
 
-// The first of the nodes `from` to before `to` with the label `x`; `to` if there is none.
-fn seek(store: &[u8], from: usize, to: usize, x: usize) -> usize {
+pub const LONE: usize = 4;
+// The label of a blank, and what the reader writes there.
+pub const NOTHING: usize = 255;
+
+// The first of the nodes `from` to before `to` that has `x` in the part at `base`; `to` if there is none.
+pub fn seek(store: &[u8], base: usize, from: usize, to: usize, x: usize) -> usize {
     for j in from..to {
-        if num(store, ROW, j) == x {
+        if num(store, base, j) == x {
             return j;
         }
     }
     to
 }
 
-fn kind(store: &[u8], n: usize, i: usize) -> usize {
-    let x = num(store, ROW, i);
-    let before = seek(store, 0, i, x);
-    let after = seek(store, plus(i, 1), n, x);
+// The kind of node `i`, whose label `x` is that of a net.
+fn net_kind(store: &[u8], n: usize, i: usize, x: usize) -> usize {
+    let before = seek(store, ROW, 0, i, x);
+    let after = seek(store, ROW, plus(i, 1), n, x);
     if before < i {
         if after < n { INNER } else { LAST }
     } else {
@@ -37,7 +42,15 @@ fn kind(store: &[u8], n: usize, i: usize) -> usize {
     }
 }
 
-// Writes each node's kind: B 0, M 1, E 2, and 3 where the label stands there only.
+fn kind(store: &[u8], n: usize, i: usize) -> usize {
+    let x = num(store, ROW, i);
+    if x == NOTHING {
+        return BLANK;
+    }
+    net_kind(store, n, i, x)
+}
+
+// Writes each node's kind: B 0, M 1, E 2, 3 for a blank, and 4 where the label stands there only.
 pub fn kinds(store: &mut [u8], n: usize) {
     for i in 0..n {
         set(store, KINDS, i, kind(store, n, i));
@@ -55,7 +68,7 @@ pub fn lone(store: &[u8], n: usize) -> usize {
 }
 
 // 1 if a node's kind is the one wanted, else 0: a first node opens a net, a last one closes it.
-fn if_kind(kind: usize, wanted: usize) -> usize {
+pub fn if_kind(kind: usize, wanted: usize) -> usize {
     if kind == wanted { 1 } else { 0 }
 }
 
@@ -63,7 +76,7 @@ fn at_most_255(x: usize) -> usize {
     if x < 255 { x } else { 255 }
 }
 
-// Writes how many nets are open at each node, with its own; 255 stands for all more.
+// Writes how many nets are open at each node, with its own if it has one; 255 stands for all more.
 pub fn opens(store: &mut [u8], n: usize) {
     let mut open = 0;
     for i in 0..n {
@@ -74,9 +87,12 @@ pub fn opens(store: &mut [u8], n: usize) {
     }
 }
 
-// The number of node `i`'s net where `nets` nets began before it.
+// The number of node `i`'s net where `nets` nets began before it; 255 at a blank.
 fn number(store: &[u8], i: usize, nets: usize) -> usize {
-    let j = seek(store, 0, i, num(store, ROW, i));
+    if num(store, KINDS, i) == BLANK {
+        return NOTHING;
+    }
+    let j = seek(store, ROW, 0, i, num(store, ROW, i));
     if j < i { num(store, NUMBERS, j) } else { nets }
 }
 

@@ -5,6 +5,7 @@ pub mod Scans
 pub mod Tails
 pub mod Touches
 pub mod Walks
+pub mod Nets
 pub mod Fills
 pub mod Readings
 pub mod Matches

@@ -2,14 +2,14 @@
 use mathlib.Core.Path.{_≡_, refl, sym, ap, ap₂, _∙_}
 use mathlib.Core.List.{List, [], _∷_}
 use mathlib.Core.Option.{none, some}
-use Prim.Native.Nat.{ℕ, suc, _+_, _-_, _≤_, _<_}
+use Prim.Native.Nat.{ℕ, suc, _+_, _≤_, _<_}
 use native.Mathlib.Numerals.{add-one}
 use native.Mathlib.Omega.{arith}
 use lib.ListN.{drop}
 use lib.Seq.{drop-cons, drop-length}
 use Rattle.rules.specs.declared.Fault.{Fault}
 use Rattle.rules.specs.Basic.{orElse, tabulate}
-use Rattle.rules.specs.Row.{Kind, B, M, E}
+use Rattle.rules.specs.Row.{Kind, B, M, E, N}
 use Rattle.rules.specs.Sheet.{kindIn, Entry, entry, upperOf, lowerOf, countOf, entryAt, entriesOf}
 use Rattle.rules.specs.Judgement.{faultAt, left, scan, leftOpen, middle}
 use Rattle.rules.proofs.Pins.{length-tabulate, getD-tabulate}
@@ -36,6 +36,7 @@ left-le b (entry f a) = go (kindIn f)
     go B = omega arith
     go M = omega arith
     go E = omega arith
+    go N = omega arith
 
 scan-cons : (ku kl i b : ℕ) (e : Entry) (es : List Entry)
     → scan ku kl i b (e ∷ es) ≡ orElse (faultAt ku kl i b e) (scan ku kl (suc i) (left (kindAt e) b) es)

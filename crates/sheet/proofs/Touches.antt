@@ -4,9 +4,9 @@ use Prim.Native.Nat.{ℕ, zero, suc, _+_, _-_, _≤_, _<_}
 use native.Mathlib.Omega.{arith}
 use lib.ListN.{getD}
 use Rattle.rules.specs.Basic.{put, cut}
-use Rattle.rules.specs.Row.{Kind, B, M, E}
-use Rattle.rules.specs.Street.{counted, next}
-use Rattle.rules.specs.Sheet.{kindIn, Entry, entry, begun, labelled}
+use Rattle.rules.specs.Row.{Kind, B, M, E, N}
+use Rattle.rules.specs.Street.{last, counted, next}
+use Rattle.rules.specs.Sheet.{kindIn, Entry, entry, begun, netAt, label}
 use Rattle.rules.specs.Judgement.{left}
 use Rattle.street.specs.declared.Order.{Order}
 use Rattle.street.specs.Order.{listed, Sound, Inserted, Removed}
@@ -27,18 +27,23 @@ module _ {e : Entry} {f a : ℕ} (p : e ≡ entry f a) where
   unfolding kindAt aboveAt kindIn
   at-goes-on h = rw (p, h) (record { kind = refl; above = refl })
 
-  pub at-ends : 2 ≤ f → At e E a
+  pub at-ends : f ≡ 2 → At e E a
   unfolding kindAt aboveAt kindIn
-  at-ends h = rw p (record { kind = go f h; above = refl })
+  at-ends h = rw (p, h) (record { kind = refl; above = refl })
+
+  pub at-blank : 3 ≤ f → At e N a
+  unfolding kindAt aboveAt kindIn
+  at-blank h = rw p (record { kind = go f h; above = refl })
     where
-      go : (f : ℕ) → 2 ≤ f → kindIn f ≡ E
+      go : (f : ℕ) → 3 ≤ f → kindIn f ≡ N
       go zero h = absurd (omega arith)
       go (suc zero) h = absurd (omega arith)
-      go (suc (suc f)) h = refl
+      go (suc (suc zero)) h = absurd (omega arith)
+      go (suc (suc (suc f))) h = refl
 
 module _ {e : Entry} {a : ℕ} {o : Order} {n : ℕ} where
   pub ready-begins : At e B a → Ready e o n → (o .count < 6) × (a ≤ o .count) × (n < 256)
-  unfolding counted begun
+  unfolding last counted begun
   ready-begins t r =
       let stands = rw (t .kind, t .above) at (r .stands) in
       let few = rw (t .kind) at (r .few) in
@@ -46,15 +51,15 @@ module _ {e : Entry} {a : ℕ} {o : Order} {n : ℕ} where
       omega arith
 
   pub ready-goes-on : At e M a → Ready e o n → a < o .count
-  unfolding counted
+  unfolding last counted
   ready-goes-on t r = rw (t .kind, t .above) at (r .stands)
 
   pub ready-ends : At e E a → Ready e o n → a < o .count
-  unfolding counted
+  unfolding last counted
   ready-ends t r = rw (t .kind, t .above) at (r .stands)
 
   pub touched-begins : At e B a → {q : Order} → Inserted o a n q → Touched e o n (record { label = n; order = q; begun = n + 1 })
-  unfolding labelled next left begun
+  unfolding netAt label next left begun
   touched-begins t i =
       let k : a ≡ suc a - 1 = omega arith in
       record {
@@ -66,12 +71,12 @@ module _ {e : Entry} {a : ℕ} {o : Order} {n : ℕ} where
       }
 
   pub touched-goes-on : At e M a → Sound o → {x : ℕ} → x ≡ getD (listed o) a 0 → Touched e o n (record { label = x; order = o; begun = n })
-  unfolding labelled next left begun
+  unfolding netAt label next left begun
   touched-goes-on t s l =
       record { sound = s; label = rw (t .kind, t .above) l; list = rw (t .kind); count = rw (t .kind); nets = rw (t .kind) }
 
   pub touched-ends : At e E a → {x : ℕ} {q : Order} → x ≡ getD (listed o) a 0 → Removed o a q → Touched e o n (record { label = x; order = q; begun = n })
-  unfolding labelled next left begun
+  unfolding netAt label next left begun
   touched-ends t l i =
       let k : a ≡ suc a - 1 = omega arith in
       record {
@@ -81,3 +86,7 @@ module _ {e : Entry} {a : ℕ} {o : Order} {n : ℕ} where
         count = rw (t .kind) (omega (arith, i .count));
         nets = rw (t .kind);
       }
+
+  pub touched-blank : At e N a → Sound o → Touched e o n (record { label = 255; order = o; begun = n })
+  unfolding netAt label next left begun
+  touched-blank t s = record { sound = s; label = rw (t .kind); list = rw (t .kind); count = rw (t .kind); nets = rw (t .kind) }

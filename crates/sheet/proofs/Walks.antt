@@ -2,20 +2,20 @@
 use mathlib.Core.Path.{_≡_, refl, sym, ap, _∙_}
 use mathlib.Core.List.{List, [], _∷_}
 use mathlib.Core.Option.{none}
-use Prim.Native.Nat.{ℕ, suc, _+_, _*_, _-_, _≤_, _<_}
+use Prim.Native.Nat.{ℕ, suc, _+_, _*_, _≤_, _<_}
 use native.Mathlib.Numerals.{add-one}
 use native.Mathlib.Omega.{arith}
 use lib.ListN.{length, getD, drop, length-drop}
 use lib.Seq.{drop-cons}
 use Rattle.rules.specs.Basic.{orElse}
-use Rattle.rules.specs.Row.{Kind, B, M, E, node}
-use Rattle.rules.specs.Street.{counted, next}
-use Rattle.rules.specs.Sheet.{kindIn, Entry, entry, upperOf, lowerOf, countOf, entryAt, entriesOf, begun, labelled, labels, rowOf}
+use Rattle.rules.specs.Row.{Kind, B, M, E, N, node}
+use Rattle.rules.specs.Street.{last, counted, next}
+use Rattle.rules.specs.Sheet.{kindIn, Entry, entry, upperOf, lowerOf, countOf, entryAt, entriesOf, begun, nets, netAt, pinsOf, label, rowOf}
 use Rattle.rules.specs.Judgement.{head, left, middle, tail, judge}
-use Rattle.rules.proofs.Fits.{Fits}
+use Rattle.rules.proofs.Fits.{FitsAt}
 use Rattle.rules.proofs.Legal.{Legal, done, then}
 use Rattle.rules.proofs.SheetFields.{length-entriesOf}
-use Rattle.rules.proofs.GivenBack.{length-labels}
+use Rattle.rules.proofs.GivenBack.{labelled, labels, length-labels}
 use Rattle.rules.proofs.Accepted.{orElse-none, judge-passed}
 use Rattle.street.specs.declared.Order.{Order}
 use Rattle.street.specs.Order.{listed, Sound, Emptied}
@@ -41,33 +41,34 @@ faultless s e =
 -- ---- what a legal entry allows
 
 record Allowed (ku kl b : ℕ) (e : Entry) (es : List Entry) : Type 0 where
-  fits : Fits ku kl (suc (aboveAt e)) (counted (kindAt e) b)
+  fits : FitsAt (kindAt e) ku kl (suc (aboveAt e)) (counted (kindAt e) b)
   rest : Legal ku kl (left (kindAt e) b) es
 
 allowed : {ku kl b : ℕ} {e : Entry} {es : List Entry} → Legal ku kl b (e ∷ es) → Allowed ku kl b e es
 unfolding kindAt aboveAt
-allowed (then n h l) = record { fits = h; rest = l }
+allowed (then h l) = record { fits = h; rest = l }
 
 -- every open net has a node ahead that ends it
 pub legal-few : {ku kl b : ℕ} {es : List Entry} → Legal ku kl b es → b ≤ length es
 unfolding left
 legal-few done = omega arith
-legal-few (then {b} {f} {es = es} n h l) = go (kindIn f) (legal-few l)
+legal-few (then {b} {f} {es = es} h l) = go (kindIn f) (legal-few l)
   where
     go : (k : Kind) → left k b ≤ length es → b ≤ suc (length es)
     go B h = omega arith
     go M h = omega arith
     go E h = omega arith
+    go N h = omega arith
 
 -- ---- the labels of a sheet's row
 
 labels-cons : (n : ℕ) (o : List ℕ) (e : Entry) (es : List Entry)
     → labels n o (e ∷ es) ≡ labelled (kindAt e) (aboveAt e) n o ∷ labels (begun (kindAt e) n) (next (node (kindAt e) n) o (suc (aboveAt e))) es
-unfolding labels kindAt aboveAt
+unfolding nets netAt kindAt aboveAt
 labels-cons n o (entry f a) es = refl
 
 pub length-row : (s : List ℕ) → length (rowOf s) ≡ countOf s
-unfolding rowOf
+unfolding rowOf pinsOf
 length-row s = length-labels 0 [] (entriesOf s) ∙ length-entriesOf s
 
 -- ---- the walk
@@ -81,7 +82,7 @@ pub record Walked (s : List ℕ) (i : ℕ) (o : Order) (n : ℕ) : Type 0 where
   pub ahead : labels n (listed o) (drop i (entriesOf s)) ≡ drop i (rowOf s)
 
 pub walk-start : (s : List ℕ) (o : Order) → Faultless s → Emptied o → Walked s 0 o 0
-unfolding rowOf
+unfolding rowOf pinsOf
 walk-start s o w e =
     record {
       within = omega arith;
@@ -110,6 +111,7 @@ module _ (s : List ℕ) (i : ℕ) (h : i < countOf s) (o : Order) (n : ℕ) (w :
       go B l = omega (arith, length-drop (suc i) (entriesOf s), length-entriesOf s, w .few, d .high)
       go M l = omega (arith, length-drop (suc i) (entriesOf s), length-entriesOf s, w .few, d .high)
       go E l = omega (arith, length-drop (suc i) (entriesOf s), length-entriesOf s, w .few, d .high)
+      go N l = omega (arith, length-drop (suc i) (entriesOf s), length-entriesOf s, w .few, d .high)
 
   module _ (r : Step) (t : Touched (entryAt s i) o n r) where
     both : (r .label ∷ labels (r .begun) (listed (r .order)) (drop (suc i) (entriesOf s))) ≡ getD (rowOf s) i 0 ∷ drop (suc i) (rowOf s)
@@ -125,7 +127,7 @@ module _ (s : List ℕ) (i : ℕ) (h : i < countOf s) (o : Order) (n : ℕ) (w :
     walk-label = cc both
 
     pub walk-step : Walked s (i + 1) (r .order) (r .begun)
-    unfolding begun left counted
+    unfolding begun left last counted
     walk-step =
         record {
           within = omega arith;
@@ -135,7 +137,8 @@ module _ (s : List ℕ) (i : ℕ) (h : i < countOf s) (o : Order) (n : ℕ) (w :
           ahead = rw (add-one i) (cc both);
         }
       where
-        go : (k : Kind) → suc (aboveAt (entryAt s i)) ≤ counted k (o .count) → 2 * begun k n ≤ i + 1 + left k (o .count)
+        go : (k : Kind) → suc (aboveAt (entryAt s i)) ≤ last k (counted k (o .count)) → 2 * begun k n ≤ i + 1 + left k (o .count)
         go B l = omega (arith, w .few)
         go M l = omega (arith, w .few)
         go E l = omega (arith, w .few)
+        go N l = omega (arith, w .few)

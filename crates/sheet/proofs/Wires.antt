@@ -1,5 +1,5 @@
--- The tests at one node: 15 by its kind field, then 16, 17, 30, 31 of its wire.
-use mathlib.Core.Path.{_≡_, sym, ap, ap₂, _∙_}
+-- The tests at one node: 16, 17, 30, 31 of its wire, and 16, 17, 30 at a blank.
+use mathlib.Core.Path.{_≡_, ap, ap₂, _∙_}
 use mathlib.Core.List.{List}
 use mathlib.Core.Option.{some}
 use Prim.Native.Nat.{ℕ, suc, _+_, _*_, _-_, _/_, _%_, _^_, _≤_, _<_}
@@ -8,45 +8,53 @@ use native.Mathlib.Numerals.{add-one}
 use native.Mathlib.Omega.{arith}
 use lib.ListN.{length, take, drop, length-drop}
 use lib.Seq.{take-add, drop-drop, length-take-le}
-use borrow.Author.Tests.{le-leb, lt-leb}
+use borrow.Author.Tests.{le-leb, lt-leb, lt-ltb, le-ltb}
 use Rattle.rules.specs.declared.Limits.{Limits}
-use Rattle.rules.specs.declared.Fault.the-variants.{Kind as NoKind, Position}
+use Rattle.rules.specs.declared.Fault.the-variants.{Position}
 use Rattle.rules.specs.Basic.{keep, orElse}
 use Rattle.rules.specs.Bits.{bits, val, field}
-use Rattle.rules.specs.Street.{counted, limits}
+use Rattle.rules.specs.Street.{last, limitsAt, counted, limits, blankLimits}
 use Rattle.rules.specs.Sheet.{kindIn, entry, entryAt}
 use Rattle.rules.specs.Judgement.{broken, faultAt, left}
 use Rattle.rules.proofs.Fields.{val-append, field-lt, length-pack}
 use Rattle.bits.specs.Access.{Got}
-use Rattle.sheet.specs.Told.{passed, wireFault, kindAt, InSheet}
+use Rattle.sheet.specs.Told.{passed, wireFault, blankFault, kindAt, InSheet}
 
 module _ (ku kl i a b : ℕ) where
   pub wire-past : b ≤ a → wireFault ku kl i a b ≡ some (Position i)
   unfolding wireFault keep orElse
   wire-past h = rw (le-leb b a h)
 
-  -- r is what the limits were told to be
-  pub wire-limit : a < b → {r l : Limits} → r ≡ limits ku kl (suc a) b → r ≡ l → wireFault ku kl i a b ≡ broken l i
+  -- l is what the limits were told to be
+  pub wire-limit : a < b → {l : Limits} → l ≡ limits ku kl (suc a) b → wireFault ku kl i a b ≡ broken l i
   unfolding wireFault keep orElse
-  wire-limit h p q = rw (lt-leb b a h, sym p ∙ q)
+  wire-limit h p = rw (lt-leb b a h, p)
+
+  pub blank-past : b < a → blankFault ku kl i a b ≡ some (Position i)
+  unfolding blankFault keep orElse
+  blank-past h = rw (lt-ltb b a h)
+
+  pub blank-limit : a ≤ b → {l : Limits} → l ≡ blankLimits ku kl a b → blankFault ku kl i a b ≡ broken l i
+  unfolding blankFault keep orElse
+  blank-limit h p = rw (le-ltb b a h, p)
 
 module _ (ku kl i a b : ℕ) {f : ℕ} where
   -- what a node tells, by its kind field: a B opens a net, an E closes one
   pub node-begins : f ≡ 0 → passed (faultAt ku kl i b (entry f a)) (left (kindAt (entry f a)) b) ≡ passed (wireFault ku kl i a (b + 1)) (b + 1 - 0)
-  unfolding faultAt kindAt wireFault left counted kindIn keep orElse
+  unfolding faultAt kindAt wireFault left last limitsAt counted kindIn keep orElse
   node-begins e = rw (e, add-one b, sub-zero (suc b))
 
   pub node-goes-on : f ≡ 1 → passed (faultAt ku kl i b (entry f a)) (left (kindAt (entry f a)) b) ≡ passed (wireFault ku kl i a b) (b - 0)
-  unfolding faultAt kindAt wireFault left counted kindIn keep orElse
+  unfolding faultAt kindAt wireFault left last limitsAt counted kindIn keep orElse
   node-goes-on e = rw (e, sub-zero b)
 
   pub node-ends : f ≡ 2 → passed (faultAt ku kl i b (entry f a)) (left (kindAt (entry f a)) b) ≡ passed (wireFault ku kl i a b) (b - 1)
-  unfolding faultAt kindAt wireFault left counted kindIn keep orElse
+  unfolding faultAt kindAt wireFault left last limitsAt counted kindIn keep orElse
   node-ends e = rw e
 
-  pub node-unknown : f ≡ 3 → faultAt ku kl i b (entry f a) ≡ some (NoKind i)
-  unfolding faultAt keep orElse
-  node-unknown e = rw e
+  pub node-blank : f ≡ 3 → passed (faultAt ku kl i b (entry f a)) (left (kindAt (entry f a)) b) ≡ passed (blankFault ku kl i a b) b
+  unfolding faultAt kindAt blankFault left last limitsAt counted kindIn keep orElse
+  node-blank e = let p : suc a - 1 ≡ a = omega arith in rw (e, p)
 
 -- six bits are two and then four
 module _ (s : List ℕ) (at : ℕ) (h : at + 6 ≤ 8 * length s) where

@@ -3,11 +3,11 @@ use mathlib.Core.Option.{Option, none, some}
 use mathlib.Core.List.{List}
 use Prim.Native.Nat.{ℕ, suc, _+_, _*_, _≤_, _<_}
 use lib.ListN.{length}
-use lib.Dec.{leb}
+use lib.Dec.{leb, ltb}
 use Rattle.rules.specs.declared.Fault.{Fault}
 use Rattle.rules.specs.Basic.{keep, orElse}
 use Rattle.rules.specs.Row.{Kind}
-use Rattle.rules.specs.Street.{limits}
+use Rattle.rules.specs.Street.{limits, blankLimits}
 use Rattle.rules.specs.Sheet.{kindIn, Entry, entry}
 use Rattle.rules.specs.Judgement.{broken}
 use Rattle.sheet.specs.declared.inspect.Inspected.{Inspected}
@@ -27,7 +27,11 @@ passed (some e) b = Passed.Unfit e
 unfoldable pub wireFault : (ku kl i a b : ℕ) → Option Fault
 wireFault ku kl i a b = orElse (keep (leb b a) (Fault.Position i)) (broken (limits ku kl (suc a) b) i)
 
--- an entry's kind, and the nets above its own
+-- 16, 17, 30 at a blank that is node i, from 1, with a of b wires above
+unfoldable pub blankFault : (ku kl i a b : ℕ) → Option Fault
+blankFault ku kl i a b = orElse (keep (ltb b a) (Fault.Position i)) (broken (blankLimits ku kl a b) i)
+
+-- an entry's kind, and the nets above it
 unfoldable pub kindAt : Entry → Kind
 kindAt (entry f a) = kindIn f
 

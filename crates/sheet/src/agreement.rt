@@ -1,14 +1,13 @@
-// The agreement test: whether a sheet joins the same pins as a row.
+// The agreement test: whether a sheet joins the same pins as a row and leaves the same blank.
 use crate::reader::read;
 use rules::Reading;
 ghost use mathlib.Core.Path.{_≡_};
 ghost use Prim.Native.Nat.{suc, _<_};
-ghost use lib.Dec.{eqb};
 ghost use Rattle.rules.specs.Basic.{pick};
 ghost use Rattle.rules.specs.Answers.{samePins, agrees as agreeing};
-ghost use Rattle.sheet.specs.InTurn.{InTurn};
+ghost use Rattle.sheet.specs.InTurn.{InTurn, begins};
 
-// Whether the sheet passes every test of the reader but 14 and joins the same nodes as the row, of the same length.
+// Whether the sheet passes every test of the reader but 14, and joins the same nodes as the row, of the same length, and leaves the same blank.
 pub fn agrees(row: &[u8], s: &[u8]) -> bool
     ensures { λ r. ⌜ r ≡ agreeing (now (row .entry)) (now (s .entry)) ⌝ }
 {
@@ -22,7 +21,8 @@ pub fn agrees(row: &[u8], s: &[u8]) -> bool
 }
 
 // Whether two rows join the same pins, of which the second numbers its nets in the order of their first nodes. For each label of
-// the first row, `nets` has one more than the number of its net, and 0 where the label was not met yet.
+// the first row, `nets` has one more than the number of its net, and 0 where the label was not met yet. The label of blanks has one more
+// than itself from the start, so that it stands for no net.
 fn same_pins(row: &[u8], own: &[u8]) -> bool
     requires { ⌜ InTurn 0 (now own) ⌝ }
     ensures { λ r. ⌜ r ≡ samePins (now (row .entry)) (now (own .entry)) ⌝ }
@@ -32,6 +32,7 @@ fn same_pins(row: &[u8], own: &[u8]) -> bool
         return false;
     }
     let mut nets = [0u16; 256];
+    nets[255] = 256;
     let mut begun = 0;
     let mut i = 0;
     while i < n {
@@ -47,18 +48,32 @@ fn same_pins(row: &[u8], own: &[u8]) -> bool
     true
 }
 
-// What `nets` must have for the label of a node of this net: nothing, where the net is the next to begin.
+// What `nets` must have for the label of a node of this net, or of a blank, whose number here is 255: nothing, where the node begins a net.
 fn known(net: u16, begun: u16) -> u16
     requires { ⌜ net < 256 ⌝ }
-    ensures { λ r. ⌜ r ≡ pick (eqb net begun) 0 (suc net) ⌝ }
+    ensures { λ r. ⌜ r ≡ pick (begins net begun) 0 (suc net) ⌝ }
 {
-    if net == begun { 0 } else { net + 1 }
+    if is_next(net, begun) { 0 } else { net + 1 }
 }
 
-// The number of nets begun after a node of this net.
+// The number of nets begun after a node of this net, or after a blank.
 fn begun_after(net: u16, begun: u16) -> u16
     requires { ⌜ net < 256 ⌝ }
-    ensures { λ r. ⌜ r ≡ pick (eqb net begun) (suc begun) begun ⌝ }
+    ensures { λ r. ⌜ r ≡ pick (begins net begun) (suc begun) begun ⌝ }
 {
-    if net == begun { begun + 1 } else { begun }
+    if is_next(net, begun) {
+        begun + 1
+    } else {
+        begun
+    }
+}
+
+// Whether the net is the next to begin, which a blank is never.
+fn is_next(net: u16, begun: u16) -> bool
+    ensures { λ r. ⌜ r ≡ begins net begun ⌝ }
+{
+    if net == 255 {
+        return false;
+    }
+    net == begun
 }

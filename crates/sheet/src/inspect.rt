@@ -1,16 +1,17 @@
-// The judgement of a sheet, all numbers of the reader but 14: what every reader of sheets asks first.
+// The judgement of a sheet, 11 to 13, 16 to 19, 30 and 31: what reader, agreement test and drawer ask of it; and 23, which the drawer does not ask.
 use bits::get_bits;
 use rules::Fault;
 use rules::Limits;
+use street::blank_limits;
 use street::street_limits;
 ghost use mathlib.Core.Path.{_≡_};
 ghost use mathlib.Core.Option.{none};
 ghost use Prim.Native.Nat.{_+_, _*_, _-_, _≤_, _<_};
-ghost use lib.ListN.{length};
+ghost use lib.Dec.{ltb};
 ghost use Rattle.rules.specs.Basic.{orElse};
-ghost use Rattle.rules.specs.Sheet.{entryAt, entriesOf};
-ghost use Rattle.rules.specs.Judgement.{head, faultAt, left, middle, tail, leftOpen, judge};
-ghost use Rattle.sheet.specs.Told.{told, passed, wireFault, kindAt, InSheet};
+ghost use Rattle.rules.specs.Sheet.{entryAt, entriesOf, netsOf};
+ghost use Rattle.rules.specs.Judgement.{head, broken, faultAt, left, middle, tail, leftOpen, judge};
+ghost use Rattle.sheet.specs.Told.{told, passed, wireFault, blankFault, kindAt, InSheet};
 
 // What the judgement of a sheet finds.
 pub enum Inspected {
@@ -62,7 +63,7 @@ pub fn inspect_head(s: &[u8]) -> Inspected
     Inspected::Legal
 }
 
-// 15, 16, 17, 30, 31 node by node, then 18 and 19, of a sheet whose head has no fault.
+// 16, 17, 30, 31 node by node, then 18 and 19, of a sheet whose head has no fault.
 pub fn inspect_body(s: &[u8]) -> Inspected
     requires { ⌜ head (now s) ≡ none ⌝ }
     ensures { λ r. ⌜ r ≡ told (orElse (middle (now (s .entry))) (tail (now (s .entry)))) ⌝ }
@@ -74,7 +75,7 @@ pub fn inspect_body(s: &[u8]) -> Inspected
     }
 }
 
-// 15, 16, 17, 30, 31 at all nodes, leftmost first.
+// 16, 17, 30, 31 at all nodes, leftmost first.
 fn judge_nodes(s: &[u8]) -> Passed
     requires { ⌜ head (now s) ≡ none ⌝ }
     ensures { λ r. ⌜ r ≡ passed (middle (now (s .entry))) (leftOpen 0 (entriesOf (now (s .entry)))) ⌝ }
@@ -95,7 +96,7 @@ fn judge_nodes(s: &[u8]) -> Passed
     Passed::Open(b)
 }
 
-// 15, 16, 17, 30, 31 at node i, from 0, before which b nets are open.
+// 16, 17, 30, 31 at node i, from 0, before which b nets are open.
 fn judge_node(s: &[u8], ku: u8, kl: u8, i: usize, b: usize) -> Passed
     requires { ⌜ InSheet (now s) i × (b ≤ i) ⌝ }
     ensures { λ r. ⌜ r ≡ passed (faultAt ku kl (i + 1) b (entryAt (now (s .entry)) i)) (left (kindAt (entryAt (now (s .entry)) i)) b) ⌝ }
@@ -108,7 +109,7 @@ fn judge_node(s: &[u8], ku: u8, kl: u8, i: usize, b: usize) -> Passed
         0 => judge_wire(ku, kl, node, above, b + 1, 0),
         1 => judge_wire(ku, kl, node, above, b, 0),
         2 => judge_wire(ku, kl, node, above, b, 1),
-        _ => Passed::Unfit(Fault::Kind(node)),
+        _ => judge_blank(ku, kl, node, above, b),
     }
 }
 
@@ -122,6 +123,24 @@ fn judge_wire(ku: u8, kl: u8, node: usize, above: usize, b: usize, closed: usize
     }
     let left = b - closed;
     let limit = street_limits(ku, kl, above, b);
+    judge_limit(limit, node, left)
+}
+
+// 16, 17, 30 at a blank with so many of b wires above it.
+fn judge_blank(ku: u8, kl: u8, node: usize, above: usize, b: usize) -> Passed
+    ensures { λ r. ⌜ r ≡ passed (blankFault ku kl node above b) b ⌝ }
+{
+    if b < above {
+        return Passed::Unfit(Fault::Position(node));
+    }
+    let limit = blank_limits(ku, kl, above, b);
+    judge_limit(limit, node, b)
+}
+
+// 17, 30, 31 by the limit that is broken at a node, after which so many nets are left open.
+fn judge_limit(limit: Limits, node: usize, left: usize) -> Passed
+    ensures { λ r. ⌜ r ≡ passed (broken limit node) left ⌝ }
+{
     match limit {
         Limits::Met => Passed::Open(left),
         Limits::Upper => Passed::Unfit(Fault::Street(Limits::Upper, node)),
@@ -144,4 +163,25 @@ fn judge_end(s: &[u8], b: usize) -> Inspected
         return Inspected::Unfit(Fault::Padding);
     }
     Inspected::Legal
+}
+
+// 23, of a sheet without another fault: whether it has more nets than there are labels for them. A net has two nodes or more, so that 256 nets take all of 512 nodes,
+// and each of these begins a net or ends one.
+pub fn crowded(s: &[u8]) -> bool
+    requires { ⌜ judge (now s) ≡ none ⌝ }
+    ensures { λ r. ⌜ r ≡ ltb 255 (netsOf (now (s .entry))) ⌝ }
+{
+    let n = get_bits(s, 6, 10) as usize;
+    if n < 512 {
+        return false;
+    }
+    let mut i = 0;
+    while i < n {
+        let kind = get_bits(s, 16 + 6 * i, 2);
+        if kind % 2 == 1 {
+            return false;
+        }
+        i += 1;
+    }
+    true
 }

@@ -1,8 +1,10 @@
-// The reader: from a sheet back to a row, whose labels number the nets 0, 1, 2 in the order of their first nodes.
+// The reader: from a sheet back to a row, whose labels number the nets 0, 1, 2 in the order of their first nodes and are 255 at blanks.
 use crate::inspect::Inspected;
+use crate::inspect::crowded;
 use crate::inspect::inspect_body;
 use crate::inspect::inspect_head;
 use bits::get_bits;
+use rules::Fault;
 use rules::Reading;
 use street::Order;
 ghost use mathlib.Core.Path.{_≡_};
@@ -38,12 +40,23 @@ fn read_body(s: &[u8], row: &mut [u8]) -> Reading
     }
     let found = inspect_body(s);
     match found {
-        Inspected::Legal => {
-            write_row(s, row);
-            Reading::Row(n)
-        }
+        Inspected::Legal => read_legal(s, row),
         Inspected::Unfit(e) => Reading::Unfit(e),
     }
+}
+
+// 23 and then the row, of a sheet without another fault.
+fn read_legal(s: &[u8], row: &mut [u8]) -> Reading
+    requires { ⌜ judge (now s) ≡ none ⌝ }
+    requires { ⌜ countOf (now s) ≤ length (now row) ⌝ }
+    ensures { λ r. ⌜ GivenBack (now (s .entry)) (now (row .entry)) r (now (row .exit)) ⌝ }
+{
+    if crowded(s) {
+        return Reading::Unfit(Fault::Nets);
+    }
+    let n = get_bits(s, 6, 10) as usize;
+    write_row(s, row);
+    Reading::Row(n)
 }
 
 // Writes the row of a sheet without a fault.
@@ -64,7 +77,7 @@ fn write_row(s: &[u8], row: &mut [u8])
     }
 }
 
-// What a walk over the entries has at a node: the label of its net, and after it the order and the number of nets begun.
+// What a walk over the entries has at a node: the label of its net, or a blank's, and after it the order and the number of nets begun.
 pub struct Step {
     pub label: u8,
     pub order: Order,
@@ -98,7 +111,7 @@ pub fn touch(s: &[u8], i: usize, order: Order, begun: usize) -> Step
                 begun,
             }
         }
-        _ => {
+        2 => {
             let label = order.label(above);
             let order = order.remove(above);
             Step {
@@ -107,5 +120,10 @@ pub fn touch(s: &[u8], i: usize, order: Order, begun: usize) -> Step
                 begun,
             }
         }
+        _ => Step {
+            label: 255,
+            order,
+            begun,
+        },
     }
 }

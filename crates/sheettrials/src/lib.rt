@@ -1,2 +1,2 @@
-// What is asked of the sheet of one accepted row.
+// What is asked of one sheet: of an accepted row's, or of any.
 pub mod sheets;

@@ -1,67 +1,83 @@
-// The sheet of an accepted row: what the reader, the agreement test and the drawer say of it, against the second router's.
+// A sheet: what the reader, the agreement test and the drawer say of it, against the second router's judgement.
+use filmtrials::films::drawing_fault;
+use filmtrials::films::is_undrawn;
 use secondfilm::sheets::sheet_need;
+use secondreader::judge::count;
+use secondreader::judge::fault;
+use secondreader::judge::head_fault;
+use secondreader::judge::joins_alike;
+use secondreader::judge::nets_answer;
+use secondreader::judge::numbers;
+use secondrouter::cells::NUMBER;
 use secondrouter::cells::NUMBERS;
+use secondrouter::cells::OTHERS;
 use secondrouter::cells::OWN;
 use secondrouter::cells::ROW;
-use secondrouter::cells::SHEET;
+use secondrouter::cells::answer;
+use secondrouter::cells::carry;
 use secondrouter::cells::equal;
+use secondrouter::cells::larger;
 use secondrouter::cells::less;
 use secondrouter::cells::num;
 use secondrouter::cells::plus;
 use secondrouter::cells::set;
+use secondrouter::cells::smaller;
+use secondrouter::nets::NOTHING;
+use secondrouter::nets::seek;
 use tallies::patterns::fill;
 use tallies::patterns::keep;
 use tallies::patterns::keeps;
+use tallies::patterns::part;
+use tallies::patterns::sheet_of;
 use tallies::patterns::upto;
 use tallies::tally;
-use tallies::tally::answer;
 use tallies::tally::code;
+use tallies::tally::failing_part;
 use tallies::tally::is_wanted;
-use tallies::tally::larger;
 use tallies::tally::within;
 
-// The bytes of the store from the sheet of a row of `n` nodes to its end.
-fn sheet_of(store: &[u8], n: usize) -> &[u8] {
-    let from = upto(SHEET, store.len());
-    part(&store[from..], sheet_need(n))
-}
-
-fn part(s: &[u8], n: usize) -> &[u8] {
-    let start = 0;
-    let end = upto(n, s.len());
-    &s[start..end]
-}
-
-fn ask_reader(store: &[u8], n: usize, back: &mut [u8], back_len: usize) -> usize {
+fn ask_reader(store: &[u8], len: usize, back: &mut [u8], back_len: usize) -> usize {
     let start = 0;
     let end = upto(back_len, back.len());
-    code(answers::read_said(sheet::reader::read(sheet_of(store, n), &mut back[start..end])))
+    code(answers::read_said(sheet::reader::read(sheet_of(store, len), &mut back[start..end])))
 }
 
 // The reader's answer, with a row buffer that holds the pattern of `seed`; the buffer is then kept in the store.
 fn read_with(
     store: &mut [u8],
-    n: usize,
+    len: usize,
     back: &mut [u8; 640],
     back_len: usize,
     seed: usize,
 ) -> usize {
     fill(back, 0, back_len, seed);
-    let said = ask_reader(store, n, back, back_len);
+    let said = ask_reader(store, len, back, back_len);
     keep(store, OWN, back, back_len);
     said
 }
 
-// Whether the reader gives back the nets' numbers, and leaves what is behind them.
-fn reads(store: &mut [u8], words: &mut [usize], n: usize, seed: usize) -> bool {
+// How many bytes of the row's buffer an answer of the reader leaves written: a number but 0 leaves all as it was.
+fn written(answer: usize) -> usize {
+    if answer < NUMBER { answer } else { 0 }
+}
+
+// Whether the reader gives the wanted answer, the nets' numbers where it accepts, and leaves the rest of the buffer.
+fn reads(
+    store: &mut [u8],
+    words: &mut [usize],
+    len: usize,
+    back_len: usize,
+    want: usize,
+    seed: usize,
+) -> bool {
     let mut back = [0u8; 640];
-    let back_len = plus(n, seed % 6);
-    let said = read_with(store, n, &mut back, back_len, seed);
-    tally::add(words, tally::READ, 1);
-    if !is_wanted(words, said, answer(0, n)) {
+    let said = read_with(store, len, &mut back, back_len, seed);
+    tally::count_read(words, want);
+    tally::add(words, tally::READ, smaller(written(want), 1));
+    if !is_wanted(words, said, want) {
         return false;
     }
-    is_row_back(store, n, back_len, seed)
+    is_row_back(store, written(want), back_len, seed)
 }
 
 fn is_row_back(store: &[u8], n: usize, back_len: usize, seed: usize) -> bool {
@@ -71,9 +87,56 @@ fn is_row_back(store: &[u8], n: usize, back_len: usize, seed: usize) -> bool {
     keeps(store, OWN, n, back_len, seed)
 }
 
-// Whether the agreement test takes the row of `n` nodes and the sheet.
-fn agrees(store: &[u8], n: usize) -> bool {
-    sheet::agreement::agrees(part(store, n), sheet_of(store, n))
+// Whether a row buffer one byte short gets 14 where 11, 12 and 13 do not hold, and is left as it was; tried on every fourth sheet.
+fn refuses_row(store: &mut [u8], words: &mut [usize], len: usize, seed: usize) -> bool {
+    if (seed / 16) % 4 != 1 {
+        return true;
+    }
+    let head = head_fault(store, len);
+    let want = if head == 0 { answer(14, 0) } else { head };
+    let short = less(within(count(store), 513), 1);
+    reads(store, words, len, less(short, seed % 2), want, seed)
+}
+
+// Whether the reader says what it has to, with a row buffer that suffices and with one that does not.
+fn reads_rightly(
+    store: &mut [u8],
+    words: &mut [usize],
+    len: usize,
+    want: usize,
+    seed: usize,
+) -> bool {
+    if !refuses_row(store, words, len, seed) {
+        return false;
+    }
+    reads(
+        store,
+        words,
+        len,
+        plus(within(count(store), 513), seed % 6),
+        want,
+        seed,
+    )
+}
+
+// Whether the row of `n` nodes joins as a sheet of `m` nodes does, whose numbers stand in the store.
+fn joins(store: &[u8], n: usize, m: usize) -> bool {
+    if n != m {
+        return false;
+    }
+    joins_alike(store, n)
+}
+
+fn is_same(a: bool, b: bool) -> bool {
+    if a { b } else { !b }
+}
+
+// Whether the agreement test says of the row of `n` nodes what it has to; `m` is 0 where the reader does not take the sheet.
+fn agrees(store: &[u8], words: &mut [usize], n: usize, len: usize, m: usize) -> bool {
+    let want = joins(store, n, m);
+    let said = sheet::agreement::agrees(part(store, n), sheet_of(store, len));
+    tally::count_agreement(words, want);
+    is_same(said, want)
 }
 
 // A node whose label is not that of node `j`, looked for from node `start` on; `n` if there is none.
@@ -87,154 +150,200 @@ fn other_net(store: &[u8], n: usize, j: usize, start: usize) -> usize {
     n
 }
 
-// Whether the sheet agrees with the row once node `j` has the label of node `k`; the row is put back after.
-fn agrees_moved(store: &mut [u8], n: usize, j: usize, k: usize) -> bool {
+// The same as `agrees` once node `j` has the label `x`; the row is put back after.
+fn agrees_changed(
+    store: &mut [u8],
+    words: &mut [usize],
+    n: usize,
+    len: usize,
+    m: usize,
+    j: usize,
+    x: usize,
+) -> bool {
     let own = num(store, ROW, j);
-    set(store, ROW, j, num(store, ROW, k));
-    let agreed = agrees(store, n);
+    set(store, ROW, j, x);
+    let agreed = agrees(store, words, n, len, m);
     set(store, ROW, j, own);
     agreed
 }
 
-// Whether the row agrees with the sheet, and one with a node moved to another net, where there is another, does not.
-fn agrees_rightly(store: &mut [u8], words: &mut [usize], n: usize, seed: usize) -> bool {
-    let j = within(seed / 3, n);
-    let k = other_net(store, n, j, within(seed / 5, n));
-    let agreed = agrees(store, n);
-    let moved = agrees_moved(store, n, j, k);
-    tally::count_agreement(words, k != n);
-    is_right(agreed, moved, k != n)
-}
-
-fn is_right(agreed: bool, moved: bool, has_other: bool) -> bool {
-    if has_other {
-        if moved {
-            return false;
+// A label that no node of the row has: one of nets where one is left.
+fn unused(store: &[u8], n: usize) -> usize {
+    for x in 0..NOTHING {
+        if seek(store, ROW, 0, n, x) == n {
+            return x;
         }
     }
+    0
+}
+
+// Another label for node `j`: 255, or one that no node has where that is its own.
+fn blank_or_not(store: &[u8], n: usize, j: usize) -> usize {
+    if num(store, ROW, j) == NOTHING {
+        return unused(store, n);
+    }
+    NOTHING
+}
+
+// Gives a node the label `y` if its label is `x`.
+fn relabel_node(store: &mut [u8], i: usize, x: usize, y: usize) {
+    if num(store, ROW, i) == x {
+        set(store, ROW, i, y);
+    }
+}
+
+// Gives each node with the label `x` the label `y`.
+fn relabel(store: &mut [u8], n: usize, x: usize, y: usize) {
+    for i in 0..n {
+        relabel_node(store, i, x, y);
+    }
+}
+
+// The same as `agrees` once the row's blanks are a net; the row is put back after.
+fn agrees_filled(store: &mut [u8], words: &mut [usize], n: usize, len: usize, m: usize) -> bool {
+    let x = unused(store, n);
+    relabel(store, n, NOTHING, x);
+    let agreed = agrees(store, words, n, len, m);
+    relabel(store, n, x, NOTHING);
     agreed
 }
 
-fn ask_drawer(store: &[u8], n: usize, film: &mut [u8], film_len: usize) -> usize {
-    let start = 0;
-    let end = upto(film_len, film.len());
-    code(answers::draw_said(film::drawer::draw(sheet_of(store, n), &mut film[start..end])))
-}
-
-fn film_need(records: usize) -> usize {
-    if records < 65536 { records * 5 } else { 0 }
-}
-
-// Whether the drawer gives the wanted answer, and leaves the film as it was from byte `from` on.
-fn draws(
-    store: &[u8],
+// Whether the agreement test is right on the row with node `j` moved to another net, or to the blanks, if there is another label.
+fn agrees_moved(
+    store: &mut [u8],
     words: &mut [usize],
     n: usize,
-    film: &mut [u8],
-    film_len: usize,
-    from: usize,
-    want: usize,
+    len: usize,
+    m: usize,
+    j: usize,
     seed: usize,
 ) -> bool {
-    fill(film, 0, film_len, seed);
-    let said = ask_drawer(store, n, film, film_len);
-    if !is_wanted(words, said, want) {
-        return false;
-    }
-    keeps(film, 0, from, film_len, seed)
-}
-
-// Whether a film one byte short gets 21 and is left as it was; tried on every fourth row.
-fn refuses_film(
-    store: &[u8],
-    words: &mut [usize],
-    n: usize,
-    film: &mut [u8],
-    need: usize,
-    seed: usize,
-) -> bool {
-    if (seed / 16) % 4 != 0 {
+    let k = other_net(store, n, j, within(seed / 5, n));
+    let x = num(store, ROW, k);
+    if k == n {
         return true;
     }
-    tally::add(words, tally::SHORT_FILMS, 1);
-    draws(store, words, n, film, less(need, 1), 0, answer(21, 0), seed)
+    agrees_changed(store, words, n, len, m, j, x)
 }
 
-// Whether the film obeys the wire rules.
-fn is_legal(
+// Whether it is right on the row with node `j` left blank, or given a label if it is blank.
+fn agrees_blanked(
     store: &mut [u8],
     words: &mut [usize],
     n: usize,
-    pair: usize,
-    film: &[u8],
-    records: usize,
+    len: usize,
+    m: usize,
+    j: usize,
 ) -> bool {
-    let points = secondfilm::wires::points(store, words, film, records, n, pair);
-    tally::count_film(words, records, points);
-    points != 0
+    let x = blank_or_not(store, n, j);
+    agrees_changed(store, words, n, len, m, j, x)
 }
 
-// The first part that fails, from `first` on.
-fn failing_part(a: bool, b: bool, c: bool, first: usize) -> usize {
-    if !a {
-        return first;
+// Whether it is right on the row with its blanks joined, and on the row without its last node; tried on every fourth sheet.
+fn agrees_otherwise(
+    store: &mut [u8],
+    words: &mut [usize],
+    n: usize,
+    len: usize,
+    m: usize,
+    seed: usize,
+) -> bool {
+    if (seed / 16) % 4 != 2 {
+        return true;
     }
-    if !b {
-        return plus(first, 1);
+    if !agrees_filled(store, words, n, len, m) {
+        return false;
     }
-    if c { 0 } else { plus(first, 2) }
+    agrees(store, words, less(n, 1), len, m)
 }
 
-fn film_fault(
+// Whether the agreement test is right on the row and on rows near it.
+fn agrees_rightly(
     store: &mut [u8],
     words: &mut [usize],
     n: usize,
-    pair: usize,
-    film: &mut [u8; 40960],
-    records: usize,
+    len: usize,
+    m: usize,
     seed: usize,
-) -> usize {
-    let need = film_need(records);
-    let refused = refuses_film(store, words, n, film, need, seed);
-    let drawn = draws(
-        store,
-        words,
-        n,
-        film,
-        plus(need, seed % 9),
-        need,
-        answer(0, records),
-        seed,
-    );
-    let legal = is_legal(store, words, n, pair, film, records);
-    failing_part(refused, drawn, legal, 4)
+) -> bool {
+    if !agrees(store, words, n, len, m) {
+        return false;
+    }
+    if !agrees_moved(store, words, n, len, m, within(seed / 3, n), seed) {
+        return false;
+    }
+    if !agrees_blanked(store, words, n, len, m, within(seed / 7, n)) {
+        return false;
+    }
+    agrees_otherwise(store, words, n, len, m, seed)
 }
 
-// What is wrong with the film of an accepted row, if anything is.
-fn drawing_fault(
+// What is wrong with the answers to a sheet of `m` nodes without a fault, tried with a row of `n` nodes, if anything is.
+fn legal_fault(
     store: &mut [u8],
     words: &mut [usize],
     n: usize,
-    pair: usize,
-    nets: usize,
+    len: usize,
+    m: usize,
     seed: usize,
 ) -> usize {
-    let mut film = [0u8; 40960];
-    let records = secondfilm::sheets::records(store, n, nets, pair);
-    film_fault(store, words, n, pair, &mut film, records, seed)
-}
-
-// What is wrong with the sheet of an accepted row, if anything is.
-pub fn sheet_fault(
-    store: &mut [u8],
-    words: &mut [usize],
-    n: usize,
-    pair: usize,
-    seed: usize,
-) -> usize {
-    let nets = secondrouter::nets::numbers(store, n);
-    let read = reads(store, words, n, seed);
-    let agreed = agrees_rightly(store, words, n, seed);
-    let fault = drawing_fault(store, words, n, pair, nets, seed);
+    let nets = numbers(store, m);
+    let want = nets_answer(m, nets);
+    let read = reads_rightly(store, words, len, want, seed);
+    let agreed = agrees_rightly(store, words, n, len, written(want), seed);
+    let fault = drawing_fault(store, words, m, len, nets, seed);
     larger(failing_part(read, agreed, true, 2), fault)
+}
+
+// What is wrong with the answers to a sheet that has a fault, if anything is.
+fn refusal_fault(
+    store: &mut [u8],
+    words: &mut [usize],
+    n: usize,
+    len: usize,
+    want: usize,
+    seed: usize,
+) -> usize {
+    let read = reads_rightly(store, words, len, want, seed);
+    let agreed = agrees_rightly(store, words, n, len, 0, seed);
+    let refused = is_undrawn(store, words, len, want, seed);
+    failing_part(read, agreed, refused, 2)
+}
+
+// 0 if all answers to the sheet of `len` bytes, tried with the row of `n` nodes, are as they have to be, else the part that is not: 2 the reader, 3 the agreement
+// test, 4 to 6 the drawer.
+fn sheet_fault(store: &mut [u8], words: &mut [usize], n: usize, len: usize, seed: usize) -> usize {
+    let want = fault(store, len);
+    if want != 0 {
+        return refusal_fault(store, words, n, len, want, seed);
+    }
+    legal_fault(store, words, n, len, count(store), seed)
+}
+
+// Whether the second router's judgement takes its own sheet, and gives back the numbers of the row's nets.
+fn is_own(store: &mut [u8], n: usize) -> bool {
+    secondrouter::nets::numbers(store, n);
+    carry(store, NUMBERS, OTHERS, 0, n);
+    if fault(store, sheet_need(n)) != 0 {
+        return false;
+    }
+    numbers(store, n);
+    equal(store, NUMBERS, OTHERS, n)
+}
+
+// What is wrong with the sheet of an accepted row, if anything is: 8 the second router's own judgement of it, or a part as above.
+pub fn row_fault(store: &mut [u8], words: &mut [usize], n: usize, seed: usize) -> usize {
+    if !is_own(store, n) {
+        return 8;
+    }
+    sheet_fault(store, words, n, sheet_need(n), seed)
+}
+
+// Tests the sheet of `len` bytes with the row of `n` nodes, and counts and prints a disagreement.
+pub fn test(store: &mut [u8], words: &mut [usize], n: usize, len: usize) {
+    let seed = tally::next_sheet(words);
+    let part = sheet_fault(store, words, n, len, seed);
+    if part != 0 {
+        tally::disagree_sheet(store, words, n, len, part);
+    }
 }

@@ -47,8 +47,10 @@ pub fn faults(tally: Tally) -> Tally {
         tally,
         Asked::Drawer,
         b"
-kind-3 1002c200 0 15 1 -
-kind-3-later 10020300 0 15 2 -
+E-behind-a-blank 1002c200 0 16 2 -
+s-over-b 1002fe00 0 16 1 -
+s-over-Ku 0403031800 0 17 2 -
+wires-below-a-blank 10020300 0 30 2 -
 p-over-b 14020600 0 16 1 -
 M-on-no-net 10024200 0 16 1 -
 E-on-no-net 1003020800 0 16 3 -
@@ -69,16 +71,15 @@ pub fn causes_in_turn(tally: Tally) -> Tally {
         b"
 11-before-12 4001 0 11 0 -
 12-before-13 4002020000 0 12 0 -
-15-before-16 1002fe00 0 15 1 -
 16-before-17 00020600 0 16 1 -
+16-before-17-at-a-blank 0403032800 0 16 2 -
 16-before-31 14030000c0 0 16 3 -
 17-before-31 1403000080 0 17 3 -
 30-before-31 1403000000 0 30 3 -
-31-at-1-before-15-at-2 00020300 0 31 1 -
+31-at-1-before-30-at-a-blank 00020300 0 31 1 -
 31-at-1-before-30-at-2 00020000 0 31 1 -
 30-at-2-before-17-at-3 1003000080 0 30 2 -
-16-at-2-before-15-at-3 1003021c00 0 16 2 -
-15-before-18 14020300 0 15 2 -
+left-open-at-a-blank 14020300 0 18 2 -
 30-before-18 10020000 0 30 2 -
 18-before-19 14020001 0 18 2 -
 30-before-19 10020001 0 30 2 -

@@ -17,6 +17,27 @@ pub fn short_inputs(tally: Tally) -> Tally {
     )
 }
 
+pub fn blank_inputs(tally: Tally) -> Tally {
+    let tally = listing_case(
+        tally,
+        b"two-nets-and-blanks",
+        b"\x01\x01ab\xffab\xff",
+        b"sheet 6 1 1\n1 B 1 1\n2 B 1 2\n3 N 1 2\n4 E 2 2\n5 E 1 1\n6 N 0 0\n",
+    );
+    let tally = listing_case(
+        tally,
+        b"blanks-alone",
+        b"\x00\x00\xff\xff",
+        b"sheet 2 0 0\n1 N 0 0\n2 N 0 0\n",
+    );
+    listing_case(
+        tally,
+        b"refused-past-a-blank",
+        b"\x02\x00ab\xffab",
+        b"refused 6 at 4\n",
+    )
+}
+
 pub fn refused_inputs(tally: Tally) -> Tally {
     let tally = listing_case(tally, b"Ku-4", b"\x04\x01aa", b"refused 2 at 0\n");
     let tally = listing_case(tally, b"S10", b"\x01\x01aab", b"refused 3 at 3\n");
@@ -42,6 +63,6 @@ fn most_listed(tally: Tally, input: &[u8]) -> Tally {
         b"512-nodes 5026 513",
         input,
         b"sheet 512 1 0\n1 B 1 1\n2 E 1 1\n",
-        b"511 B 1 1\n512 E 1 1\n",
+        b"511 N 0 0\n512 N 0 0\n",
     )
 }

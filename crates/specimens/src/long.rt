@@ -8,11 +8,11 @@ use casebook::reading::reader_row;
 use casebook::routing::router_row;
 use casebook::routing::router_sheet;
 
-// 512 nodes and 256 nets, the last labelled 255, with buffers exact and one byte short.
+// 512 nodes: 255 nets of two and two blanks, with buffers exact and one byte short.
 pub fn most_nodes(tally: Tally) -> Tally {
     let mut row = [0u8; 512];
     let mut sheet = [0u8; 386];
-    let mut film = [0u8; 3840];
+    let mut film = [0u8; 3825];
     write_pairs(Pairs::Row, &mut row);
     write_pairs(Pairs::Sheet, &mut sheet);
     write_pairs(Pairs::Film, &mut film);
@@ -54,14 +54,46 @@ fn most_read(tally: Tally, row: &[u8], sheet: &[u8]) -> Tally {
 }
 
 fn most_drawn(tally: Tally, sheet: &[u8], film: &[u8]) -> Tally {
-    let tally = drawer_film(tally, b"512-nodes 1200.. 3840 0 768 8020..", 2, sheet, film);
+    let tally = drawer_film(tally, b"512-nodes 1200.. 3825 0 765 8020..", 2, sheet, film);
     drawer_film(
         tally,
-        b"512-nodes-film-short 1200.. 3839 21 0 -",
+        b"512-nodes-film-short 1200.. 3824 21 0 -",
         2,
         sheet,
         b"",
     )
+}
+
+// The sheet of 256 nets: no row has so many nets, so that the reader refuses it after all its other tests and no row agrees with it, and the drawer draws it.
+pub fn most_nets(tally: Tally) -> Tally {
+    let mut row = [0u8; 512];
+    let mut sheet = [0u8; 386];
+    let mut film = [0u8; 3840];
+    write_pairs(Pairs::Row, &mut row);
+    write_pairs(Pairs::Nets, &mut sheet);
+    write_pairs(Pairs::Film, &mut film);
+    let tally = nets_drawn(tally, &sheet, &film);
+    let tally = nets_refused(tally, &row, &sheet);
+    sheet[0] = 0x16;
+    sheet[385] = 0;
+    reader_row(tally, b"18-before-23 1600.. 512 18 512 -", 2, &sheet, b"")
+}
+
+fn nets_drawn(tally: Tally, sheet: &[u8], film: &[u8]) -> Tally {
+    let tally = drawer_film(tally, b"256-nets 1200.. 3840 0 768 8020..", 2, sheet, film);
+    drawer_film(
+        tally,
+        b"256-nets-film-short 1200.. 3839 21 0 -",
+        2,
+        sheet,
+        b"",
+    )
+}
+
+fn nets_refused(tally: Tally, row: &[u8], sheet: &[u8]) -> Tally {
+    let tally = reader_row(tally, b"256-nets 1200.. 512 23 0 -", 2, sheet, b"");
+    let tally = reader_row(tally, b"14-before-23 1200.. 511 14 0 -", 2, sheet, b"");
+    agreement_sheet(tally, b"256-nets aabb.. 1200..", row, sheet, false)
 }
 
 // 513 nodes: refused as a row, and as the count of a sheet of their length.

@@ -1,5 +1,6 @@
 // Asks the library the edges and specimens of documents 01 and 02 and the worked net lists of the source documents, and prints each answer with what was tested.
 mod agreement_edges;
+mod blanks;
 mod drawer_edges;
 mod listings;
 mod long;
@@ -28,6 +29,10 @@ fn named(tally: Tally) -> Tally {
     let tally = specimens::accepted_rows(tally);
     let tally = specimens::refused_rows(tally);
     let tally = specimens::refused_sheets(tally);
+    let tally = blanks::rows(tally);
+    let tally = blanks::refused_rows(tally);
+    let tally = blanks::sheets(tally);
+    let tally = blanks::agreements(tally);
     worked::net_lists(tally)
 }
 
@@ -52,8 +57,10 @@ fn drawer_and_agreement(tally: Tally) -> Tally {
 
 fn listed(tally: Tally) -> Tally {
     let tally = long::most_nodes(tally);
+    let tally = long::most_nets(tally);
     let tally = long::too_many_nodes(tally);
     let tally = listings::short_inputs(tally);
+    let tally = listings::blank_inputs(tally);
     let tally = listings::refused_inputs(tally);
     listings::long_inputs(tally)
 }

@@ -48,8 +48,10 @@ pub fn faults(tally: Tally) -> Tally {
         tally,
         Asked::Reader,
         b"
-kind-3 1002c200 100 15 1 -
-kind-3-later 10020300 100 15 2 -
+E-behind-a-blank 1002c200 100 16 2 -
+s-over-b 1002fe00 100 16 1 -
+s-over-Ku 0403031800 100 17 2 -
+wires-below-a-blank 10020300 100 30 2 -
 p-over-b 14020600 100 16 1 -
 M-on-no-net 10024200 100 16 1 -
 E-on-no-net 1003020800 100 16 3 -
@@ -71,17 +73,16 @@ pub fn causes_in_turn(tally: Tally) -> Tally {
 11-before-12 4001 100 11 0 -
 12-before-13 4002020000 100 12 0 -
 13-before-14 100202 1 13 0 -
-14-before-15 1002c200 1 14 0 -
-15-before-16 1002fe00 100 15 1 -
+14-before-16 1002c200 1 14 0 -
 16-before-17 00020600 100 16 1 -
+16-before-17-at-a-blank 0403032800 100 16 2 -
 16-before-31 14030000c0 100 16 3 -
 17-before-31 1403000080 100 17 3 -
 30-before-31 1403000000 100 30 3 -
-31-at-1-before-15-at-2 00020300 100 31 1 -
+31-at-1-before-30-at-a-blank 00020300 100 31 1 -
 31-at-1-before-30-at-2 00020000 100 31 1 -
 30-at-2-before-17-at-3 1003000080 100 30 2 -
-16-at-2-before-15-at-3 1003021c00 100 16 2 -
-15-before-18 14020300 100 15 2 -
+left-open-at-a-blank 14020300 100 18 2 -
 30-before-18 10020000 100 30 2 -
 18-before-19 14020001 100 18 2 -
 30-before-19 10020001 100 30 2 -

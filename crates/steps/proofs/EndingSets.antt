@@ -95,8 +95,8 @@ module _ (ku kl k a b r p x : ℕ) (ek : k ≡ 2) where
     where
       go : (c d : Bool) → eqb p (atOf a b r) ≡ c → fits ku kl (suc p) b ≡ d →
           (p ≡ atOf a b r) × (fits ku kl (suc (atOf a b r)) b ≡ true) × (lessOf a b r ≡ x)
-      go false d q f = none-some (hop-elsewhere ku kl k a b r p (omega arith) (eqb-false p (atOf a b r) q)) e
-      go true false q f = none-some (hop-unmet ku kl k a b r p (omega arith) f) e
+      go false d q f = none-some (hop-elsewhere ku kl k a b r p (omega arith) (omega arith) (eqb-false p (atOf a b r) q)) e
+      go true false q f = none-some (hop-unmet ku kl k a b r p (omega arith) (omega arith) f) e
       go true true q f =
           let m : p ≡ atOf a b r = eqb-true p (atOf a b r) q in
           (m, rw m at f, same-some (hop-ends ku kl k a b r p ek m f) e)
@@ -110,7 +110,7 @@ module _ (t : Stop) (l : ℕ) (sound : Sound t) (ends : t .kind ≡ 2) (legal : 
   a = t .age
 
   among : a < b
-  among = sound .touched (omega arith)
+  among = sound .touched (omega arith) (omega arith)
 
   stands : (r : ℕ) → r < fact b → bit l (atOf a b r) ≡ fits (t .ku) (t .kl) (suc (atOf a b r)) b
   stands r h = legal .bits (atOf a b r) (at-lt a b r among h)

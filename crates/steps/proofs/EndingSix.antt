@@ -275,7 +275,7 @@ module _ (t : Stop) (ok : Sound t) (ends : t .kind ≡ 2) (six : t .count ≡ 6)
     other-left c n k z o alone = record { sound = sound; full = full }
       where
         small : c < 5
-        small = omega (arith, ok .touched (omega arith))
+        small = omega (arith, ok .touched (omega arith) (omega arith))
 
         sound : (x : ℕ) → x < 120 → within k x ≡ true → Reached t s g x
         sound x h e =
@@ -338,7 +338,7 @@ module _ (t : Stop) (ok : Sound t) (ends : t .kind ≡ 2) (six : t .count ≡ 6)
     other-back c n z w same = record { sound = sound; full = full }
       where
         small : c < 5
-        small = omega (arith, ok .touched (omega arith))
+        small = omega (arith, ok .touched (omega arith) (omega arith))
 
         mark : (x : ℕ) → x < 120 → marked s (suc g) (48 + lessOf c 5 x) ≡ bit n (lessOf c 5 x)
         mark x h = rw w (mark-few 2 (lessOf c 5 x) (48 + lessOf c 5 x) (omega arith) (less-four c x small h) (omega arith))

@@ -7,10 +7,11 @@ use native.Mathlib.Omega.{arith}
 use lib.Dec.{T, eqb, ltb}
 use borrow.Author.Tests.{eqb-true, eq-eqb, ne-eqb, ltb-true, ltb-false}
 use Rattle.rules.specs.Basic.{keep}
-use Rattle.rules.specs.Street.{fits}
+use Rattle.rules.specs.Row.{N}
+use Rattle.rules.specs.Street.{fits, last, fitsAt}
 use Rattle.rules.specs.Sheet.{kindIn}
 use Rattle.rules.specs.Judgement.{left}
-use Rattle.rules.proofs.Fits.{Fits, fits→, →fits}
+use Rattle.rules.proofs.Fits.{Fits, fits→, →fits, FitsAt, fitsAt→, →fitsAt}
 use Rattle.steps.specs.Plan.{step}
 use Rattle.steps.specs.Ranks.{capacity, fact, atOf, lessOf, hopOf}
 use Rattle.steps.specs.Sets.{ranks, held}
@@ -60,31 +61,30 @@ module _ (ku kl k a b r p : ℕ) where
   unfolding hopOf keep
   hop-ends e q f = rw (e, eq-eqb p (atOf a b r) q, f)
 
-pub hop-elsewhere : (ku kl k a b r p : ℕ) → 0 < k → (p ≡ atOf a b r → ⊥) → hopOf ku kl (step k a b) r p ≡ none
+pub hop-elsewhere : (ku kl k a b r p : ℕ) → 0 < k → k < 3 → (p ≡ atOf a b r → ⊥) → hopOf ku kl (step k a b) r p ≡ none
 unfolding hopOf keep
-hop-elsewhere ku kl zero a b r p h n = absurd (omega arith)
-hop-elsewhere ku kl (suc zero) a b r p h n = rw (ne-eqb p (atOf a b r) n)
-hop-elsewhere ku kl (suc (suc zero)) a b r p h n = rw (ne-eqb p (atOf a b r) n)
-hop-elsewhere ku kl (suc (suc (suc k))) a b r p h n = refl
+hop-elsewhere ku kl zero a b r p h m n = absurd (omega arith)
+hop-elsewhere ku kl (suc zero) a b r p h m n = rw (ne-eqb p (atOf a b r) n)
+hop-elsewhere ku kl (suc (suc zero)) a b r p h m n = rw (ne-eqb p (atOf a b r) n)
+hop-elsewhere ku kl (suc (suc (suc k))) a b r p h m n = absurd (omega arith)
 
 no-keep : {A : Type 0} (t f : Bool) (x : A) → f ≡ false → keep (t && f) x ≡ none
 unfolding keep
 no-keep true f x e = rw e
 no-keep false f x e = refl
 
-pub hop-unmet : (ku kl k a b r p : ℕ) → 0 < k → fits ku kl (suc p) b ≡ false → hopOf ku kl (step k a b) r p ≡ none
+pub hop-unmet : (ku kl k a b r p : ℕ) → 0 < k → k < 3 → fits ku kl (suc p) b ≡ false → hopOf ku kl (step k a b) r p ≡ none
 unfolding hopOf
-hop-unmet ku kl zero a b r p h n = absurd (omega arith)
-hop-unmet ku kl (suc zero) a b r p h n = no-keep (eqb p (atOf a b r)) (fits ku kl (suc p) b) r n
-hop-unmet ku kl (suc (suc zero)) a b r p h n = no-keep (eqb p (atOf a b r)) (fits ku kl (suc p) b) (lessOf a b r) n
-hop-unmet ku kl (suc (suc (suc k))) a b r p h n = refl
+hop-unmet ku kl zero a b r p h m n = absurd (omega arith)
+hop-unmet ku kl (suc zero) a b r p h m n = no-keep (eqb p (atOf a b r)) (fits ku kl (suc p) b) r n
+hop-unmet ku kl (suc (suc zero)) a b r p h m n = no-keep (eqb p (atOf a b r)) (fits ku kl (suc p) b) (lessOf a b r) n
+hop-unmet ku kl (suc (suc (suc k))) a b r p h m n = absurd (omega arith)
 
 -- what a hop that is made says
 pub record Made (ku kl k a b r p x : ℕ) : Type 0 where
-  pub kind : k < 3
-  pub room : p < ku + kl
+  pub room : p ≤ ku
   pub left-open : left (kindIn k) b ≤ ku + kl
-  pub lands : (0 < k → a < b) → r < fact b → x < fact (left (kindIn k) b)
+  pub lands : (0 < k → k < 3 → a < b) → r < fact b → x < fact (left (kindIn k) b)
 
 pub kept : {A : Type 0} (t : Bool) (x y : A) → keep t x ≡ some y → (t ≡ true) × (x ≡ y)
 unfolding keep
@@ -95,27 +95,52 @@ pub both : (s t : Bool) → s && t ≡ true → (s ≡ true) × (t ≡ true)
 both true t e = (refl, e)
 both false t e = let z : _≡_ {A = ℕ} 0 1 = cc in absurd (omega arith)
 
+-- a blank is passed where the limits allow as many wires above it, and leaves the order as it is
+pub hop-rests : (ku kl k a b r p : ℕ) → 2 < k → FitsAt N ku kl (suc p) b → hopOf ku kl (step k a b) r p ≡ some r
+unfolding hopOf keep
+hop-rests ku kl zero a b r p h f = absurd (omega arith)
+hop-rests ku kl (suc zero) a b r p h f = absurd (omega arith)
+hop-rests ku kl (suc (suc zero)) a b r p h f = absurd (omega arith)
+hop-rests ku kl (suc (suc (suc k))) a b r p h f = rw (to-true (fitsAt N ku kl (suc p) b) (→fitsAt ku kl (suc p) b N f))
+
+pub hop-rested : (ku kl k a b r p x : ℕ) → 2 < k → hopOf ku kl (step k a b) r p ≡ some x → FitsAt N ku kl (suc p) b
+unfolding hopOf
+hop-rested ku kl zero a b r p x h e = absurd (omega arith)
+hop-rested ku kl (suc zero) a b r p x h e = absurd (omega arith)
+hop-rested ku kl (suc (suc zero)) a b r p x h e = absurd (omega arith)
+hop-rested ku kl (suc (suc (suc k))) a b r p x h e = fitsAt→ ku kl (suc p) b N (of-true (kept (fitsAt N ku kl (suc p) b) r x e .0))
+
+-- where no net begins or ends, the order stays as it is
+pub hop-still : (ku kl k a b r p x : ℕ) → 0 < k → (k ≡ 2 → ⊥) → hopOf ku kl (step k a b) r p ≡ some x → r ≡ x
+unfolding hopOf
+hop-still ku kl zero a b r p x h n e = absurd (omega arith)
+hop-still ku kl (suc zero) a b r p x h n e = kept (eqb p (atOf a b r) && fits ku kl (suc p) b) r x e .1
+hop-still ku kl (suc (suc zero)) a b r p x h n e = absurd (n refl)
+hop-still ku kl (suc (suc (suc k))) a b r p x h n e = kept (fitsAt N ku kl (suc p) b) r x e .1
+
 pub hop-made : (ku kl k a b r p x : ℕ) → hopOf ku kl (step k a b) r p ≡ some x → Made ku kl k a b r p x
-unfolding hopOf left kindIn
+unfolding hopOf left kindIn last
 hop-made ku kl zero a b r p x e =
     let (t, q) = kept (fits ku kl (suc p) (suc b)) (p * fact b + r) x e in
     let f : Fits ku kl (suc p) (suc b) = fits-fits ku kl (suc p) (suc b) t in
-    record { kind = omega arith; room = omega arith; left-open = omega arith; lands = λ h l. rw (← q) (rank-lt p b r (omega arith) l) }
+    record { room = omega arith; left-open = omega arith; lands = λ h l. rw (← q) (rank-lt p b r (omega arith) l) }
 hop-made ku kl (suc zero) a b r p x e =
     let (t, q) = kept (eqb p (atOf a b r) && fits ku kl (suc p) b) r x e in
     let f : Fits ku kl (suc p) b = fits-fits ku kl (suc p) b (both (eqb p (atOf a b r)) (fits ku kl (suc p) b) t .1) in
-    record { kind = omega arith; room = omega arith; left-open = omega arith; lands = λ h l. rw (← q) l }
+    record { room = omega arith; left-open = omega arith; lands = λ h l. rw (← q) l }
 hop-made ku kl (suc (suc zero)) a b r p x e =
     let (t, q) = kept (eqb p (atOf a b r) && fits ku kl (suc p) b) (lessOf a b r) x e in
     let f : Fits ku kl (suc p) b = fits-fits ku kl (suc p) b (both (eqb p (atOf a b r)) (fits ku kl (suc p) b) t .1) in
     record {
-      kind = omega arith;
       room = omega arith;
       left-open = omega arith;
       lands = λ h l. rw (← q)
-          (less-lt a b r (h (omega arith)) l);
+          (less-lt a b r (h (omega arith) (omega arith)) l);
     }
-hop-made ku kl (suc (suc (suc k))) a b r p x e = let z : _≡_ {A = ℕ} 0 1 = cc in absurd (omega arith)
+hop-made ku kl (suc (suc (suc k))) a b r p x e =
+    let f = hop-rested ku kl (suc (suc (suc k))) a b r p x (omega arith) e in
+    let q = hop-still ku kl (suc (suc (suc k))) a b r p x (omega arith) (λ z. omega arith) e in
+    record { room = omega (arith, f .upper); left-open = f .sum; lands = λ h l. rw (← q) l }
 
 -- a net that is begun as the sixth fits in the middle alone
 begun-held : (ku kl b r p : ℕ) → ku ≤ 3 → kl ≤ 3 → r < fact b → Fits ku kl (suc p) (suc b) → held (p * fact b + r) ≡ true
@@ -151,20 +176,21 @@ hop-met ku kl k a b r p x ek e = go (hop-one (rw ek at e))
 pub stop-lands : (t : Stop) (r p x : ℕ) → Sound t → r < fact (t .count) → hopAt t r p ≡ some x → (p < capacity) × (x < ranks)
 stop-lands t r p x h l e =
     let m = hop-made (t .ku) (t .kl) (t .kind) (t .age) (t .count) r p x e in
-    (omega arith, omega (arith, m .lands (h .touched) l, fact-six (left (kindIn (t .kind)) (t .count)) (omega arith)))
+    (omega (arith, m .room, h .upper), omega (arith, m .lands (h .touched) l, fact-six (left (kindIn (t .kind)) (t .count)) (omega arith)))
 
 -- and on a rank that a set can hold, from one that it can
-pub hop-held : (ku kl k a b r p x : ℕ) → ku ≤ 3 → kl ≤ 3 → b ≤ capacity → (0 < k → a < b) → r < fact b → held r ≡ true →
+pub hop-held : (ku kl k a b r p x : ℕ) → ku ≤ 3 → kl ≤ 3 → b ≤ capacity → (0 < k → k < 3 → a < b) → r < fact b → held r ≡ true →
     hopOf ku kl (step k a b) r p ≡ some x → held x ≡ true
 unfolding hopOf
 hop-held ku kl zero a b r p x hu hl f h l d e =
     let (t, q) = kept (fits ku kl (suc p) (suc b)) (p * fact b + r) x e in
     rw (← q) (begun-held ku kl b r p hu hl l (fits-fits ku kl (suc p) (suc b) t))
 hop-held ku kl (suc zero) a b r p x hu hl f h l d e =
-    rw (← kept (eqb p (atOf a b r) && fits ku kl (suc p) b) r x e .1) d
+    rw (← hop-still ku kl 1 a b r p x (omega arith) (λ z. omega arith) e) d
 hop-held ku kl (suc (suc zero)) a b r p x hu hl f h l d e =
-    rw (← kept (eqb p (atOf a b r) && fits ku kl (suc p) b) (lessOf a b r) x e .1) (ended-held a b r f (h (omega arith)) l)
-hop-held ku kl (suc (suc (suc k))) a b r p x hu hl f h l d e = let z : _≡_ {A = ℕ} 0 1 = cc in absurd (omega arith)
+    rw (← kept (eqb p (atOf a b r) && fits ku kl (suc p) b) (lessOf a b r) x e .1) (ended-held a b r f (h (omega arith) (omega arith)) l)
+hop-held ku kl (suc (suc (suc k))) a b r p x hu hl f h l d e =
+    rw (← hop-still ku kl (suc (suc (suc k))) a b r p x (omega arith) (λ z. omega arith) e) d
 
 pub stop-held : (t : Stop) (r p x : ℕ) → Sound t → r < fact (t .count) → held r ≡ true → hopAt t r p ≡ some x → held x ≡ true
 stop-held t r p x h = hop-held (t .ku) (t .kl) (t .kind) (t .age) (t .count) r p x (h .upper) (h .lower) (h .few) (h .touched)

@@ -5,6 +5,7 @@ pub mod Hops
 pub mod Bits
 pub mod Masks
 pub mod Touching
+pub mod Resting
 pub mod OpeningBits
 pub mod OpeningMarks
 pub mod OpeningSlots

@@ -14,7 +14,7 @@ use Rattle.steps.specs.Ranks.{capacity, fact, lessOf, hopOf, RankOf}
 use Rattle.steps.specs.Stops.{Sound}
 use Rattle.steps.specs.Leading.{Leads}
 use Rattle.steps.proofs.Ranks.{fact-of-four, fact-of-five, less-lt}
-use Rattle.steps.proofs.Hops.{kept, fits-fits, hop-made, hop-met, none-some}
+use Rattle.steps.proofs.Hops.{kept, fits-fits, hop-still, hop-made}
 use Rattle.steps.proofs.EndingSix.{leads-first, leads-other}
 
 -- the fifth net has one, two or three of its elders above it
@@ -72,13 +72,16 @@ ended-six t ok ends six r x of m = go (t .age) refl
         (omega arith, omega arith)
     go (suc c) z =
         let (p, e) = leads-other t ok ends six (r / 120) (r % 120) (omega (arith, mid .0)) (omega (arith, mid .1)) (omega arith) c z x m′ in
-        let l : lessOf c 5 (r % 120) < 24 = less-lt c 5 (r % 120) (omega (arith, ok .touched (omega arith))) (omega arith) in
+        let l : lessOf c 5 (r % 120) < 24 = less-lt c 5 (r % 120) (omega (arith, ok .touched (omega arith) (omega arith))) (omega arith) in
         (omega arith, omega arith)
 
 -- a stop leads from a rank that hops can lead to to another
 module _ (t : Stop) (ok : Sound t) (r x : ℕ) (of : RankOf (t .count) r) (m : Leads t r x) where
   at-kind : (k : ℕ) → t .kind ≡ k → hopOf (t .ku) (t .kl) (step k (t .age) (t .count)) r (m .at) ≡ some x
   at-kind k q = rw (← q) (m .lands)
+
+  still : (k : ℕ) → t .kind ≡ k → 0 < k → (k ≡ 2 → ⊥) → r ≡ x
+  still k q h n = hop-still (t .ku) (t .kl) k (t .age) (t .count) r (m .at) x h n (at-kind k q)
 
   inner : (k : ℕ) → t .kind ≡ k → 5 ≤ left (kindIn k) (t .count) → Inner x
   unfolding left kindIn hopOf
@@ -91,22 +94,20 @@ module _ (t : Stop) (ok : Sound t) (r x : ℕ) (of : RankOf (t .count) r) (m : L
           let f = fitted (t .ku) (t .kl) (t .age) (t .count) r (m .at) x (ok .upper) (ok .lower) of (at-kind 0 q) in
           absurd (omega (arith, f .sum, ok .upper, ok .lower, ok .few, n, c))
   inner (suc zero) q h =
-      let e : r ≡ x = hop-met (t .ku) (t .kl) 1 (t .age) (t .count) r (m .at) x refl (at-kind 1 q) .0 in
-      rw e at (of .inner h)
+      rw (still 1 q (omega arith) (λ z. omega arith)) at (of .inner h)
   inner (suc (suc zero)) q h =
       let c : t .count ≡ 6 = omega (arith, ok .few) in
       ended-six t ok q c r x (rw c at of) m
-  inner (suc (suc (suc k))) q h = none-some refl (at-kind (suc (suc (suc k))) q)
+  inner (suc (suc (suc k))) q h = rw (still (suc (suc (suc k))) q (omega arith) (λ z. omega arith)) at (of .inner h)
 
   middle : (k : ℕ) → t .kind ≡ k → left (kindIn k) (t .count) ≡ capacity → (240 ≤ x) × (x < 480)
   unfolding left kindIn hopOf
   middle zero q h =
       begun-sixth (t .ku) (t .kl) (t .age) (t .count) r (m .at) x (ok .upper) (ok .lower) of (at-kind 0 q) (omega arith) .1
   middle (suc zero) q h =
-      let e : r ≡ x = hop-met (t .ku) (t .kl) 1 (t .age) (t .count) r (m .at) x refl (at-kind 1 q) .0 in
-      rw e at (of .middle h)
+      rw (still 1 q (omega arith) (λ z. omega arith)) at (of .middle h)
   middle (suc (suc zero)) q h = absurd (omega (arith, ok .few))
-  middle (suc (suc (suc k))) q h = none-some refl (at-kind (suc (suc (suc k))) q)
+  middle (suc (suc (suc k))) q h = rw (still (suc (suc (suc k))) q (omega arith) (λ z. omega arith)) at (of .middle h)
 
   pub leads-rank : RankOf (left (kindIn (t .kind)) (t .count)) x
   leads-rank =

@@ -12,10 +12,10 @@ use Rattle.rules.specs.Basic.{pick, every}
 use Rattle.rules.proofs.Fits.{Fits}
 use Rattle.rules.proofs.PinsTest.{every-at}
 use Rattle.steps.specs.declared.rank.Stop.{Stop}
-use Rattle.steps.specs.Ranks.{fact, RankOf, atOf}
-use Rattle.steps.specs.Sets.{ranks, slots, held, slot, wordAt, bit, marked, source, Written, Empty, Some, Bare, Exactly, Loses}
+use Rattle.steps.specs.Ranks.{capacity, fact, RankOf, atOf}
+use Rattle.steps.specs.Sets.{ranks, slots, held, slot, wordAt, bit, marked, source, Written, Empty, Some, Bare, Exactly}
 use Rattle.steps.specs.Stops.{Sound}
-use Rattle.steps.specs.Leading.{Leads, Onward, Reached}
+use Rattle.steps.specs.Leading.{Leads, Reached}
 use Rattle.steps.specs.Masks.{between, slotsOf, roomAt, roomy, Sources, Redone, InSix}
 use Rattle.steps.specs.Four.{Legal, Mask}
 use Rattle.steps.proofs.Ranks.{fact-most, fact-of-four, fact-of-five}
@@ -24,9 +24,9 @@ use Rattle.steps.proofs.Words.{bit-and, bit-or, bit-zero, bit-high}
 use Rattle.steps.proofs.FourSets.{either, or-first, or-second, and-none}
 use Rattle.steps.proofs.OpeningMarks.{seat, bare-test}
 use Rattle.steps.proofs.EndingSets.{put-bare}
-use Rattle.steps.proofs.Masks.{same-test, between-in, between-out, between-under, between-over, alike, alike-same}
+use Rattle.steps.proofs.Masks.{between-in, between-under, between-over, alike, alike-same}
 use Rattle.steps.proofs.Masks.{legal-room, few-stands-at, five-stands-at, six-stands-at}
-use Rattle.steps.proofs.Bits.{not-both, marked-bit, marked-held, marked-same, source-gap}
+use Rattle.steps.proofs.Bits.{not-both, marked-bit, marked-held, marked-same, source-gap, source-held}
 use Rattle.steps.proofs.Hops.{both, fits-fits, hop-met, hop-meets}
 
 module _ (s : List ℕ) (g : ℕ) (Q : ℕ → Bool) where
@@ -94,7 +94,7 @@ pub record Sifts (s : List ℕ) (g : ℕ) (K Q : ℕ → Bool) (t : List ℕ) (a
   pub some : (i : ℕ) → bit any i ≡ true → (x : ℕ) × (held x ≡ true) × (K (slot x) ≡ true) × (Q x ≡ true)
 
 module _ (s : List ℕ) (g : ℕ) (Q : ℕ → Bool) where
-  sifts-start : (K : ℕ → Bool) → ((k : ℕ) → k < slots → K k ≡ false) → Sifts s g K Q s 0
+  pub sifts-start : (K : ℕ → Bool) → ((k : ℕ) → k < slots → K k ≡ false) → Sifts s g K Q s 0
   sifts-start K f =
       record {
         redone = redone-map s g Q (λ k. false) K s (λ k l. sym (f k l)) (redone-start s g Q);
@@ -103,7 +103,7 @@ module _ (s : List ℕ) (g : ℕ) (Q : ℕ → Bool) where
         some = λ i e. absurd (not-both (bit-zero i) e);
       }
 
-  sifts-map : (K L : ℕ → Bool) (t : List ℕ) (any : ℕ) → ((k : ℕ) → k < slots → K k ≡ L k) → Sifts s g K Q t any → Sifts s g L Q t any
+  pub sifts-map : (K L : ℕ → Bool) (t : List ℕ) (any : ℕ) → ((k : ℕ) → k < slots → K k ≡ L k) → Sifts s g K Q t any → Sifts s g L Q t any
   sifts-map K L t any f a =
       record {
         redone = redone-map s g Q K L t f (a .redone);
@@ -127,6 +127,35 @@ module _ (s : List ℕ) (g : ℕ) (Q : ℕ → Bool) where
           let (x, h, k, q) = a .some i e in
           record { rank = x; within = omega (arith, held-below x h); is = a .redone .done x h k ∙ q }
 
+-- one more word
+module _ (s : List ℕ) (g : ℕ) (Q K : ℕ → Bool) (k w any : ℕ) (u v : List ℕ) (hk : k < slots) (low : w < 16777216) (b : Written u g k w v)
+    (own : (x : ℕ) → held x ≡ true → slot x ≡ k → bit w (x % 24) ≡ Q x) (a : Sifts s g K Q u any) where
+  has : (x : ℕ) → held x ≡ true → Q x ≡ true → (K (slot x) ≡ true) ⊎ (eqb (slot x) k ≡ true) → bit any (x % 24) || bit w (x % 24) ≡ true
+  has x l q (inl e) = or-first (bit any (x % 24)) (bit w (x % 24)) (a .has x l e q)
+  has x l q (inr e) = or-second (bit any (x % 24)) (bit w (x % 24)) (own x l (eqb-true (slot x) k e) ∙ q)
+
+  some : (i : ℕ) → (bit any i ≡ true) ⊎ (bit w i ≡ true) → (x : ℕ) × (held x ≡ true) × (K (slot x) || eqb (slot x) k ≡ true) × (Q x ≡ true)
+  some i (inl e) =
+      let (x, l, c, q) = a .some i e in
+      (x, l, or-first (K (slot x)) (eqb (slot x) k) c, q)
+  some i (inr e) =
+      let c = seat k i hk (within (ltb i 24) refl) in
+      let x = c .rank in
+      (x, c .can, or-second (K (slot x)) (eqb (slot x) k) (eq-eqb (slot x) k (c .where-in)), sym (own x (c .can) (c .where-in)) ∙ rw (c .which) e)
+    where
+      within : (t : Bool) → ltb i 24 ≡ t → i < 24
+      within true d = ltb-true i 24 d
+      within false d = absurd (not-both (bit-high w 24 i low (ltb-false i 24 d)) e)
+
+  pub sifts-word : Sifts s g (λ j. K j || eqb j k) Q v (bitOr any w)
+  sifts-word =
+      record {
+        redone = redone-more s g Q K k w u v (a .redone) b own;
+        small = or-lt 24 any w (a .small) low;
+        has = λ x l e q. bit-or any w (x % 24) ∙ has x l q (either (K (slot x)) (eqb (slot x) k) e);
+        some = λ i e. some i (either (bit any i) (bit w i) (sym (bit-or any w i) ∙ e));
+      }
+
 -- a word of gap g with those bits of gap h that a mask has too
 module _ (s : List ℕ) (g h : ℕ) (P K : ℕ → Bool) (k m w : ℕ) (u v : List ℕ) (n : h ≡ g → ⊥) (ew : w ≡ bitAnd (wordAt u h k) m)
     (b : Written u g k w v) (f : (x : ℕ) → held x ≡ true → slot x ≡ k → marked s h x ≡ true → bit m (x % 24) ≡ P x) where
@@ -148,39 +177,7 @@ module _ (s : List ℕ) (g h : ℕ) (P K : ℕ → Bool) (k m w : ℕ) (u v : Li
 
   sifts-more : (any : ℕ) → k < slots → m < 16777216 → Sifts s g K kept u any → Sifts s g (λ j. K j || eqb j k) kept v (bitOr any w)
   sifts-more any hk hm a =
-      record {
-        redone = sift-more (a .redone);
-        small = or-lt 24 any w (a .small) low;
-        has = λ x l e q. bit-or any w (x % 24) ∙ has x l q (either (K (slot x)) (eqb (slot x) k) e);
-        some = λ i e. some i (either (bit any i) (bit w i) (sym (bit-or any w i) ∙ e));
-      }
-    where
-      low : w < 16777216
-      low = omega (arith, ew, and-le-r (wordAt u h k) m)
-
-      has : (x : ℕ) → held x ≡ true → kept x ≡ true → (K (slot x) ≡ true) ⊎ (eqb (slot x) k ≡ true) →
-          bit any (x % 24) || bit w (x % 24) ≡ true
-      has x l q (inl e) = or-first (bit any (x % 24)) (bit w (x % 24)) (a .has x l e q)
-      has x l q (inr e) =
-          or-second (bit any (x % 24)) (bit w (x % 24)) (sift-own (a .redone) x l (eqb-true (slot x) k e) ∙ q)
-
-      some : (i : ℕ) → (bit any i ≡ true) ⊎ (bit w i ≡ true) →
-          (x : ℕ) × (held x ≡ true) × (K (slot x) || eqb (slot x) k ≡ true) × (kept x ≡ true)
-      some i (inl e) =
-          let (x, l, c, q) = a .some i e in
-          (x, l, or-first (K (slot x)) (eqb (slot x) k) c, q)
-      some i (inr e) =
-          let c = seat k i hk (within (ltb i 24) refl) in
-          let x = c .rank in (
-            x,
-            c .can,
-            or-second (K (slot x)) (eqb (slot x) k) (eq-eqb (slot x) k (c .where-in)),
-            sym (sift-own (a .redone) x (c .can) (c .where-in)) ∙ rw (c .which) e,
-          )
-        where
-          within : (t : Bool) → ltb i 24 ≡ t → i < 24
-          within true d = ltb-true i 24 d
-          within false d = absurd (not-both (bit-high w 24 i low (ltb-false i 24 d)) e)
+      sifts-word s g kept K k w any u v hk (omega (arith, ew, and-le-r (wordAt u h k) m)) b (sift-own (a .redone)) a
 
 -- the words of ranks of b nets
 module _ (b k : ℕ) where
@@ -205,7 +202,7 @@ one-more k e = go (ltb k e) (eqb k e) refl refl
     go false false et eu = sym (le-ltb k (e + 1) (omega (arith, ltb-false k e et, eqb-false k e eu)))
 
 -- words from one on, and one more
-copy-same : (from k j : ℕ) → from ≤ k → between from k j || eqb j k ≡ between from (k + 1) j
+pub copy-same : (from k j : ℕ) → from ≤ k → between from k j || eqb j k ≡ between from (k + 1) j
 unfolding between
 copy-same from k j h = go (leb from j) refl
   where
@@ -213,7 +210,7 @@ copy-same from k j h = go (leb from j) refl
     go true e = one-more j k
     go false e = ne-eqb j k (λ q. omega (arith, leb-false from j e))
 
-copy-none : (from j : ℕ) → between from from j ≡ false
+pub copy-none : (from j : ℕ) → between from from j ≡ false
 copy-none from j = go (leb from j) refl
   where
     go : (t : Bool) → leb from j ≡ t → between from from j ≡ false
@@ -358,7 +355,38 @@ unreached t s g z f =
       full = λ x l r. absurd (f x r);
     }
 
--- what is made of an empty gap so is what the node leads to
+-- from the ranks of the nets that it finds open the stop leads to the same rank, where that passes the test P, and to no other
+pub record Keeps (t : Stop) (P : ℕ → Bool) : Type 0 where
+  pub leads : (r : ℕ) → RankOf (t .count) r → P r ≡ true → Leads t r r
+  pub only : (r x : ℕ) → RankOf (t .count) r → Leads t r x → (r ≡ x) × (P r ≡ true)
+
+-- an empty gap whose words are made anew with the ranks before it that pass has then what the stop leads to
+pub kept-exactly : (t : Stop) (s : List ℕ) (g : ℕ) (P K Q : ℕ → Bool) (u : List ℕ) → t .count ≤ capacity → Keeps t P →
+    ((x : ℕ) → Q x ≡ source s g x && P x) → ((k : ℕ) → k < slots → slotsOf (t .count) k ≡ true → K k ≡ true) → Empty s g → Sources t s g →
+    Redone s g K Q u → Exactly s g (Reached t s g) u
+kept-exactly t s g P K Q u few keeps same f z o a =
+    record {
+      long = a .long;
+      others = λ y x l n. a .others y x n;
+      sound = λ x l e. sound-at x l e (K (slot x)) refl;
+      full = λ x l r. full x r;
+    }
+  where
+    sound-at : (x : ℕ) → x < ranks → marked u g x ≡ true → (k : Bool) → K (slot x) ≡ k → Reached t s g x
+    sound-at x l e true k =
+        let (i, q) = both (source s g x) (P x) (sym (same x) ∙ sym (a .done x (marked-held u g x e) k) ∙ e) in
+        record { rank = x; below = o x i .below; from = i; leads = keeps .leads x (o x i) q }
+    sound-at x l e false k = absurd (z x l (sym (a .left x (marked-held u g x e) k) ∙ e))
+
+    full : (x : ℕ) → Reached t s g x → marked u g x ≡ true
+    full x r =
+        let y : ℕ = r .rank in
+        let l : held y ≡ true = source-held s g y (r .from) in
+        let (e, i) = keeps .only y x (o y (r .from)) (r .leads) in
+        let c : K (slot y) ≡ true = f (slot y) (slot-below y l) (rank-slots (t .count) y few l (o y (r .from))) in
+        rw (← e) (a .done y l c ∙ same y ∙ ap₂ _&&_ (r .from) i)
+
+-- a node that touches a net
 module _ (t : Stop) (s : List ℕ) (g h : ℕ) (eg : g ≡ suc h) (sound : Sound t) (touches : t .kind ≡ 1) where
   room-leads : (r : ℕ) → roomy t r ≡ true → Leads t r r
   unfolding roomAt
@@ -379,35 +407,21 @@ module _ (t : Stop) (s : List ℕ) (g h : ℕ) (eg : g ≡ suc h) (sound : Sound
   redone-exactly : (P K : ℕ → Bool) (u : List ℕ) → ((x : ℕ) → RankOf (t .count) x → P x ≡ roomy t x) →
       ((k : ℕ) → k < slots → K k ≡ slotsOf (t .count) k) → Empty s g → Sources t s g → Redone s g K (λ x. marked s h x && P x) u →
       Exactly s g (Reached t s g) u
-  redone-exactly P K u p f z o a =
-      record {
-        long = a .long;
-        others = λ y x l n. a .others y x n;
-        sound = λ x l e. sound-at x l e (K (slot x)) refl;
-        full = λ x l r. full x r;
-      }
+  redone-exactly P K u p f =
+      kept-exactly t s g P K (λ x. marked s h x && P x) u (sound .few) keeps
+      (λ x. ap (λ (v : Bool). v && P x) (sym (source-gap s g h x eg))) (λ k l e. f k l ∙ e)
     where
-      sound-at : (x : ℕ) → x < ranks → marked u g x ≡ true → (k : Bool) → K (slot x) ≡ k → Reached t s g x
-      sound-at x l e true k =
-          let q = both (marked s h x) (P x) (sym (a .done x (marked-held u g x e) k) ∙ e) in
-          let i : source s g x ≡ true = source-gap s g h x eg ∙ q .0 in
-          record { rank = x; below = o x i .below; from = i; leads = room-leads x (sym (p x (o x i)) ∙ q .1) }
-      sound-at x l e false k = absurd (z x l (sym (a .left x (marked-held u g x e) k) ∙ e))
-
-      full : (x : ℕ) → Reached t s g x → marked u g x ≡ true
-      full x r =
-          let y : ℕ = r .rank in
-          let m : marked s h y ≡ true = sym (source-gap s g h y eg) ∙ r .from in
-          let l : held y ≡ true = marked-held s h y m in
-          let (e, i) = leads-room y x (r .leads) in
-          let c : K (slot y) ≡ true = f (slot y) (slot-below y l) ∙ rank-slots (t .count) y (sound .few) l (o y (r .from)) in
-          let d : marked u g y ≡ true = a .done y l c ∙ ap₂ _&&_ m (p y (o y (r .from)) ∙ i) in
-          rw (← e) d
+      keeps : Keeps t P
+      keeps =
+          record {
+            leads = λ r o e. room-leads r (sym (p r o) ∙ e);
+            only = λ r x o l. let (e, i) = leads-room r x l in (e, p r o ∙ i);
+          }
 
   -- at most four nets, five, six
   module _ (z : Empty s g) (o : Sources t s g) where
     among : t .age < t .count
-    among = sound .touched (omega arith)
+    among = sound .touched (omega arith) (omega arith)
 
     pub few-exactly : (l : ℕ) (u : List ℕ) → t .count < 5 → Legal (t .ku) (t .kl) (t .count) l →
         Redone s g (λ k. false || eqb k 0) (λ x. marked s h x && bit l (atOf (t .age) (t .count) x)) u → Exactly s g (Reached t s g) u
@@ -437,129 +451,3 @@ module _ (t : Stop) (s : List ℕ) (g h : ℕ) (eg : g ≡ suc h) (sound : Sound
   -- where no order fits nothing is led to
   pub none-exactly : t .ku + t .kl < t .count → Empty s g → Exactly s g (Reached t s g) s
   none-exactly c z = unreached t s g z (λ x r. room-sum (r .rank) c (leads-room (r .rank) x (r .leads) .1))
-
--- words copied from the gap after
-module _ (s : List ℕ) (g from : ℕ) where
-  abbrev After : ℕ → Bool
-  After x = marked s (suc g) x
-
-  pub copy-start : Redone s g (between from from) After s
-  copy-start = redone-map s g After (λ k. false) (between from from) s (λ k l. sym (copy-none from k)) (redone-start s g After)
-
-  pub copy-step : (h k w : ℕ) (u v : List ℕ) → h ≡ suc g → from ≤ k → w ≡ wordAt u h k → Redone s g (between from k) After u →
-      Written u g k w v → Redone s g (between from (k + 1)) After v
-  copy-step h k w u v eh l ew r b =
-      redone-map s g After (λ j. between from k j || eqb j k) (between from (k + 1)) v (λ j i. copy-same from k j l)
-      (redone-more s g After (between from k) k w u v r b own)
-    where
-      own : (x : ℕ) → held x ≡ true → slot x ≡ k → bit w (x % 24) ≡ marked s (suc g) x
-      own x i e =
-          ap (λ (d : ℕ). bit d (x % 24)) (ew ∙ ap₂ (wordAt u) eh (sym e)) ∙ sym (marked-bit u (suc g) x i) ∙
-          r .others (suc g) x (λ q. omega arith)
-
-  pub copy-end : (k to : ℕ) (u : List ℕ) → to ≤ k → k ≤ to → Redone s g (between from k) After u → Redone s g (between from to) After u
-  copy-end k to u l m r =
-      let e : k ≡ to = omega arith in
-      rw e at r
-
--- the words of b nets, as bounds
-module _ (b k : ℕ) where
-  between-few : b < 5 → between 0 1 k ≡ slotsOf b k
-  between-few h = same-test (between 0 1 k) (eqb k 0)
-      (λ e. eq-eqb k 0 (omega (arith, between-out 0 1 k e .1))) (λ e. between-in 0 1 k (omega arith) (omega (arith, eqb-true k 0 e))) ∙
-      sym (slots-few b k h)
-
--- of six nets, the words of both places of the youngest
-copies : ℕ → Bool
-copies k = between 6 9 k || between 11 14 k
-
-copies-right : ℕ → Bool
-copies-right k = alike (copies k) (leb 5 k && between 1 4 ((k - 5) % 5))
-
-copies-all : every copies-right 15 ≡ true
-unfolding copies-right copies between alike every
-copies-all = refl
-
-copies-six : (b k : ℕ) → b ≡ 6 → k < slots → copies k ≡ slotsOf b k
-unfolding copies-right
-copies-six b k h l =
-    alike-same (copies k) (leb 5 k && between 1 4 ((k - 5) % 5)) (every-at copies-right 15 copies-all k l) ∙ sym (slots-six b k h)
-
--- words made anew in two turns
-redone-join : (s : List ℕ) (g : ℕ) (K L Q P : ℕ → Bool) (u v : List ℕ) → ((x : ℕ) → P x ≡ Q x) → Redone s g K Q u → Redone u g L P v →
-    Redone s g (λ k. K k || L k) Q v
-redone-join s g K L Q P u v same a b =
-    record {
-      long = b .long ∙ a .long;
-      others = λ h x n. b .others h x n ∙ a .others h x n;
-      done = λ x h e. done x h (L (slot x)) refl e;
-      left = λ x h e. let (p, q) = or-none (K (slot x)) (L (slot x)) e in b .left x h q ∙ a .left x h p;
-    }
-  where
-    or-none : (k l : Bool) → k || l ≡ false → (k ≡ false) × (l ≡ false)
-    or-none false l e = (refl, e)
-    or-none true l e = absurd (not-both e refl)
-
-    first-of : (k : Bool) → k || false ≡ true → k ≡ true
-    first-of true e = refl
-    first-of false e = e
-
-    done : (x : ℕ) → held x ≡ true → (l : Bool) → L (slot x) ≡ l → K (slot x) || l ≡ true → marked v g x ≡ Q x
-    done x h true q e = b .done x h q ∙ same x
-    done x h false q e = b .left x h q ∙ a .done x h (first-of (K (slot x)) e)
-
--- where a net is touched the ranks that are marked after the node are those that lead on
-module _ (t : Stop) (s : List ℕ) (g : ℕ) (u : List ℕ) (sound : Sound t) (touches : t .kind ≡ 1) (o : Sources t s (suc g))
-    (reached : (x : ℕ) → marked s (suc g) x ≡ true → Reached t s (suc g) x) where
-  -- a mark after the node is one before it, and the node leads from it to itself
-  after-before : (x : ℕ) → marked s (suc g) x ≡ true → (marked s g x ≡ true) × Leads t x x
-  after-before x m =
-      let r = reached x m in
-      let e : r .rank ≡ x = leads-room t s (suc g) g refl sound touches (r .rank) x (r .leads) .0 in
-      let q : marked s g (r .rank) ≡ true = sym (source-gap s (suc g) g (r .rank) refl) ∙ r .from in
-      ((rw e at q), (rw e at (r .leads)))
-
-  pub copied-loses : Redone s g (slotsOf (t .count)) (λ x. marked s (suc g) x) u → Loses s g (Onward t s (suc g)) u
-  copied-loses a =
-      record {
-        long = a .long;
-        others = λ y x l n. a .others y x n;
-        was = λ x l e. was x e (slotsOf (t .count) (slot x)) refl;
-        sound = λ x l e. onward x l (kept x e (slotsOf (t .count) (slot x)) refl);
-        full = λ x l e p. full x e p;
-      }
-    where
-      mine : (x : ℕ) → marked s g x ≡ true → slotsOf (t .count) (slot x) ≡ true
-      mine x m = rank-slots (t .count) x (sound .few) (marked-held s g x m) (o x (source-gap s (suc g) g x refl ∙ m))
-
-      kept : (x : ℕ) → marked u g x ≡ true → (k : Bool) → slotsOf (t .count) (slot x) ≡ k → marked s (suc g) x ≡ true
-      kept x e true k = sym (a .done x (marked-held u g x e) k) ∙ e
-      kept x e false k = absurd (not-both k (mine x (sym (a .left x (marked-held u g x e) k) ∙ e)))
-
-      was : (x : ℕ) → marked u g x ≡ true → (k : Bool) → slotsOf (t .count) (slot x) ≡ k → marked s g x ≡ true
-      was x e k q = after-before x (kept x e k q) .0
-
-      onward : (x : ℕ) → x < ranks → marked s (suc g) x ≡ true → Onward t s (suc g) x
-      onward x l m = record { next = x; within = l; leads = after-before x m .1; kept = m }
-
-      full : (x : ℕ) → marked s g x ≡ true → Onward t s (suc g) x → marked u g x ≡ true
-      full x m p =
-          let e : x ≡ p .next = leads-room t s (suc g) g refl sound touches x (p .next) (p .leads) .0 in
-          let n : marked s (suc g) x ≡ true = rw e (p .kept) in
-          a .done x (marked-held s g x m) (mine x m) ∙ n
-
-  pub copied-few : t .count < 5 → Redone s g (between 0 1) (λ x. marked s (suc g) x) u → Loses s g (Onward t s (suc g)) u
-  copied-few h r =
-      copied-loses (redone-map s g (λ x. marked s (suc g) x) (between 0 1) (slotsOf (t .count)) u (λ k l. between-few (t .count) k h) r)
-
-  pub copied-five : t .count ≡ 5 → Redone s g (between 1 4) (λ x. marked s (suc g) x) u → Loses s g (Onward t s (suc g)) u
-  copied-five h r =
-      copied-loses (redone-map s g (λ x. marked s (suc g) x) (between 1 4) (slotsOf (t .count)) u (λ k l. sym (slots-five (t .count) k h)) r)
-
-  pub copied-six : t .count ≡ 6 → (w : List ℕ) → Redone s g (between 6 9) (λ x. marked s (suc g) x) w →
-      Redone w g (between 11 14) (λ x. marked w (suc g) x) u → Loses s g (Onward t s (suc g)) u
-  unfolding copies
-  copied-six h w a b =
-      copied-loses (redone-map s g (λ x. marked s (suc g) x) copies (slotsOf (t .count)) u (λ k l. copies-six (t .count) k h l)
-      (redone-join s g (between 6 9) (between 11 14) (λ x. marked s (suc g) x) (λ x. marked w (suc g) x) w u
-      (λ x. a .others (suc g) x (λ e. omega arith)) a b))

@@ -6,12 +6,12 @@ use mathlib.Core.List.{List, [], _∷_}
 use Prim.Native.Nat.{ℕ, suc, _<_, _≤_}
 use lib.ListN.{length, getD}
 use Rattle.rules.specs.Basic.{cut, tabulate}
-use Rattle.rules.specs.Row.{before, B, M, E, Node, node}
+use Rattle.rules.specs.Row.{before, B, M, E, N, Node, node}
 use Rattle.rules.specs.Street.{kind}
 use Rattle.rules.specs.Sheet.{code, kindIn}
 use Rattle.rules.specs.Judgement.{left}
 
--- a node as the passes see it: kind field, age, open nets before it
+-- a node as the passes see it: kind field, age, open nets before it; a blank has no net, and its age is 0
 pub data Step : Type 0 where
   step : (kind age count : ℕ) → Step
 
@@ -20,11 +20,13 @@ unfoldable pub young : Node → List ℕ → List ℕ
 young (node B x) o = x ∷ o
 young (node M x) o = o
 young (node E x) o = cut (before x o) o
+young (node N x) o = o
 
 unfoldable pub age : Node → List ℕ → ℕ
 age (node B x) o = 0
 age (node M x) o = before x o
 age (node E x) o = before x o
+age (node N x) o = 0
 
 -- steps that the passes can follow from b open nets on: at most six are open, and a net that is touched is one of them.
 -- No order gets past a B that finds six open, so anything may stand behind it.
@@ -33,6 +35,7 @@ pub data Steps : ℕ → List Step → Type 0 where
   full : {a : ℕ} {ss : List Step} → Steps 6 (step 0 a 6 ∷ ss)
   begins : {a b : ℕ} {ss : List Step} → b < 6 → Steps (suc b) ss → Steps b (step 0 a b ∷ ss)
   meet : {k a b : ℕ} {ss : List Step} → 0 < k → k < 3 → a < b → b ≤ 6 → Steps (left (kindIn k) b) ss → Steps b (step k a b ∷ ss)
+  rests : {a b : ℕ} {ss : List Step} → b ≤ 6 → Steps b ss → Steps b (step 3 a b ∷ ss)
 
 -- steps tell nodes, from the open nets o on, up to a B that finds six open
 pub data Tells : List Node → List ℕ → List Step → Type 0 where

@@ -9,12 +9,13 @@ use Prim.Native.Nat.{ℕ, zero, suc, _+_, _-_, _*_, _/_, _%_, _<_, _≤_}
 use lib.ListN.{length}
 use lib.Dec.{leb, eqb}
 use Rattle.rules.specs.Basic.{pick, put, keep, andThen}
-use Rattle.rules.specs.Street.{fits}
+use Rattle.rules.specs.Row.{N}
+use Rattle.rules.specs.Street.{fits, fitsAt}
 use Rattle.rules.specs.Sheet.{kindIn}
 use Rattle.rules.specs.Judgement.{left}
 use Rattle.steps.specs.Plan.{Step, step}
 
--- the most nets that can be open: two streets have at most six tracks. No node has more positions.
+-- the most nets that can be open: two streets have at most six tracks. The positions that the limits allow are below it.
 abbrev pub capacity : ℕ
 capacity = 6
 
@@ -53,7 +54,7 @@ unfoldable pub hopOf : (ku kl : ℕ) → Step → (r p : ℕ) → Option ℕ
 hopOf ku kl (step zero a b) r p = keep (fits ku kl (suc p) (suc b)) (p * fact b + r)
 hopOf ku kl (step (suc zero) a b) r p = keep (eqb p (atOf a b r) && fits ku kl (suc p) b) r
 hopOf ku kl (step (suc (suc zero)) a b) r p = keep (eqb p (atOf a b r) && fits ku kl (suc p) b) (lessOf a b r)
-hopOf ku kl (step (suc (suc (suc k))) a b) r p = none
+hopOf ku kl (step (suc (suc (suc k))) a b) r p = keep (fitsAt N ku kl (suc p) b) r
 
 -- the steps from rank r on, with a position for each
 unfoldable pub hops : (ku kl : ℕ) → List Step → ℕ → List ℕ → Option ℕ

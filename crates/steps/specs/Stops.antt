@@ -25,7 +25,7 @@ hopAt t r p = hopOf (t .ku) (t .kl) (stepOf t) r p
 -- a stop that ranks can be led past: not too many nets are open, a touched net is one of them, streets have at most three tracks
 pub record Sound (t : Stop) : Type 0 where
   pub few : t .count ≤ capacity
-  pub touched : 0 < t .kind → t .age < t .count
+  pub touched : 0 < t .kind → t .kind < 3 → t .age < t .count
   pub upper : t .ku ≤ 3
   pub lower : t .kl ≤ 3
 

@@ -167,7 +167,7 @@ pub fn clear(work: &mut [u8], g: usize)
 }
 
 // The ranks before node g that slot k has bits for.
-fn before(work: &[u8], g: usize, k: usize) -> u32
+pub(crate) fn before(work: &[u8], g: usize, k: usize) -> u32
     requires { ⌜ (stretch * g ≤ length (now work)) × (k < slots) ⌝ }
     ensures { λ w. ⌜ Before (now (work .entry)) g k w ⌝ }
 {

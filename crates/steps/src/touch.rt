@@ -1,4 +1,4 @@
-// A node that touches a net, forward and back: the ranks that are kept, a word of them at a time.
+// A node that touches a net, forward: the ranks that are kept, a word of them at a time.
 use crate::four::ALL;
 use crate::four::few_at;
 use crate::four::five_at;
@@ -7,13 +7,12 @@ use crate::rank::Stop;
 use crate::word::put_word;
 use crate::word::word;
 ghost use mathlib.Core.Path.{_≡_};
-ghost use mathlib.Core.Bool.{true};
-ghost use Prim.Native.Nat.{ℕ, suc, _*_, _≤_, _<_};
+ghost use Prim.Native.Nat.{suc, _*_, _≤_, _<_};
 ghost use lib.ListN.{length};
 ghost use Rattle.steps.specs.Four.{Tables};
-ghost use Rattle.steps.specs.Masks.{between, Sources, Redone, Sifted, InSix};
-ghost use Rattle.steps.specs.Leading.{Onward, Reached};
-ghost use Rattle.steps.specs.Sets.{stretch, slots, marked, Empty, Bare, Exactly, Loses};
+ghost use Rattle.steps.specs.Masks.{Sources, Sifted, InSix};
+ghost use Rattle.steps.specs.Leading.{Reached};
+ghost use Rattle.steps.specs.Sets.{stretch, slots, Empty, Bare, Exactly};
 ghost use Rattle.steps.specs.Stops.{Sound};
 
 // Marks in gap g, which is empty, every rank before it that node g, which touches a net, leads to, and tells whether there is none.
@@ -112,39 +111,6 @@ fn six_at(tables: &[u32], a: usize, e: usize) -> u32
         return ALL;
     }
     five_at(tables, a - 1, 4, e)
-}
-
-// Leaves in gap g only the ranks from which the node after it, which touches a net, leads to a marked rank: those that are marked after it.
-pub fn prune_touched(work: &mut [u8], g: usize, stop: Stop)
-    requires { ⌜ Sound stop × (stretch * suc (suc g) ≤ length (now work)) × (stop .kind ≡ 1) ⌝ }
-    requires { ⌜ Sources stop (now work) (suc g) ⌝ }
-    requires { ⌜ ((x : ℕ) → marked (now work) (suc g) x ≡ true → Reached stop (now work) (suc g) x) ⌝ }
-    ensures { λ _. ⌜ Loses (now (work .entry)) g (Onward stop (now (work .entry)) (suc g)) (now (work .exit)) ⌝ }
-{
-    let b = stop.count as usize;
-    if b < 5 {
-        copy_back(work, g, 0, 1);
-        return;
-    }
-    if b == 5 {
-        copy_back(work, g, 1, 4);
-        return;
-    }
-    copy_back(work, g, 6, 9);
-    copy_back(work, g, 11, 14);
-}
-
-// Puts into the slots of gap g from `from` on before `to` what the gap after it has there.
-fn copy_back(work: &mut [u8], g: usize, from: usize, to: usize)
-    requires { ⌜ (stretch * suc (suc g) ≤ length (now work)) × (from ≤ to) × (to ≤ slots) ⌝ }
-    ensures { λ _. ⌜ Redone (now (work .entry)) g (between from to) (λ x. marked (now (work .entry)) (suc g) x) (now (work .exit)) ⌝ }
-{
-    let mut k = from;
-    while k < to {
-        let w = word(work, g + 1, k);
-        put_word(work, g, k, w);
-        k += 1;
-    }
 }
 
 // Puts into slot k of gap g those bits of the gap before it that m has too, and gives them.

@@ -1,4 +1,4 @@
-// The state of the street rules: an order of open nets by value, and the three limits at a node.
+// The state of the street rules: an order of open nets by value, and the limits at a node.
 use rules::Limits;
 ghost use mathlib.Core.Path.{_≡_};
 ghost use mathlib.Core.List.{[], _∷_, _++_};
@@ -6,7 +6,7 @@ ghost use Prim.Native.Nat.{suc, _≤_, _<_};
 ghost use lib.ListN.{length, getD, take};
 ghost use Rattle.rules.specs.Basic.{pick, put, cut};
 ghost use Rattle.rules.specs.Row.{before};
-ghost use Rattle.rules.specs.Street.{limits};
+ghost use Rattle.rules.specs.Street.{limits, blankLimits};
 ghost use Rattle.street.specs.Order.{capacity, listed, Sound, Emptied, Inserted, Found, Removed};
 
 // The most nets that can be open: the tracks of two streets of three.
@@ -151,4 +151,19 @@ pub fn street_limits(ku: u8, kl: u8, above: usize, b: usize) -> Limits
         return Limits::Sum;
     }
     Limits::Met
+}
+
+// Which limit a blank with `above` of b wires over it breaks, of the two streets; where neither, b ≤ Ku + Kl follows.
+pub fn blank_limits(ku: u8, kl: u8, above: usize, b: usize) -> Limits
+    requires { ⌜ above ≤ b ⌝ }
+    ensures { λ r. ⌜ r ≡ blankLimits ku kl above b ⌝ }
+{
+    if (ku as usize) < above {
+        return Limits::Upper;
+    }
+    if (kl as usize) < b - above {
+        Limits::Lower
+    } else {
+        Limits::Met
+    }
 }

@@ -1,4 +1,5 @@
 // Lent buffers: the pattern that one holds before a call, what it holds after, and how much of it is lent.
+use secondrouter::cells::SHEET;
 use secondrouter::cells::num;
 use secondrouter::cells::set;
 ghost use Prim.Native.Nat.{_≤_};
@@ -46,4 +47,17 @@ pub fn upto(n: usize, length: usize) -> usize
     ensures { λ r. ⌜ r ≤ length ⌝ }
 {
     if n < length { n } else { length }
+}
+
+// The sheet of `len` bytes that stands in the store.
+pub fn sheet_of(store: &[u8], len: usize) -> &[u8] {
+    let from = upto(SHEET, store.len());
+    part(&store[from..], len)
+}
+
+// The first `n` bytes of `s`, or all where it has fewer.
+pub fn part(s: &[u8], n: usize) -> &[u8] {
+    let start = 0;
+    let end = upto(n, s.len());
+    &s[start..end]
 }

@@ -5,6 +5,7 @@ use secondrouter::cells::OTHERS;
 use secondrouter::cells::OWN;
 use secondrouter::cells::PLACES;
 use secondrouter::cells::SHEET;
+use secondrouter::cells::answer;
 use secondrouter::cells::equal;
 use secondrouter::cells::less;
 use secondrouter::cells::plus;
@@ -14,7 +15,6 @@ use tallies::patterns::keep;
 use tallies::patterns::keeps;
 use tallies::patterns::upto;
 use tallies::tally;
-use tallies::tally::answer;
 use tallies::tally::code;
 use tallies::tally::is_wanted;
 
@@ -192,7 +192,7 @@ fn failing(store: &mut [u8], words: &mut [usize], n: usize, pair: usize) -> usiz
     both(store, n, place, served)
 }
 
-// The answer that document 01 wants of a row without lone labels.
+// The answer that documents 01 and 02 want of a row without lone labels.
 fn placed(store: &mut [u8], words: &mut [usize], n: usize, pair: usize) -> usize {
     secondrouter::nets::opens(store, n);
     let place = failing(store, words, n, pair);
@@ -203,7 +203,7 @@ fn placed(store: &mut [u8], words: &mut [usize], n: usize, pair: usize) -> usize
     }
 }
 
-// The answer that document 01 wants of a row that passes tests 1, 2, 4 and 5.
+// The answer that documents 01 and 02 want of a row that passes tests 1, 2, 4 and 5.
 fn wanted(store: &mut [u8], words: &mut [usize], n: usize, pair: usize) -> usize {
     secondrouter::nets::kinds(store, n);
     let lone = secondrouter::nets::lone(store, n);
@@ -265,7 +265,7 @@ fn later_fault(
     seed: usize,
 ) -> usize {
     if number == 0 {
-        return sheettrials::sheets::sheet_fault(store, words, n, pair, seed);
+        return sheettrials::sheets::row_fault(store, words, n, seed);
     }
     if number == 3 {
         return 0;
@@ -276,7 +276,7 @@ fn later_fault(
     early_fault(store, words, n, pair)
 }
 
-// 0 if all is as it has to be, else the part that is not: 1 the router, 2 the reader, 3 the agreement test, 4 to 6 the drawer (a short film, the answer, the wire rules), 7 the router's first tests.
+// 0 if all is as it has to be, else the part that is not: 1 the router, 2 the reader, 3 the agreement test, 4 to 6 the drawer (a short film, the answer, the wires), 7 the router's first tests, 8 the second router itself.
 fn fault(store: &mut [u8], words: &mut [usize], n: usize, pair: usize, seed: usize) -> usize {
     let want = wanted(store, words, n, pair);
     tally::count_answer(words, want, n);

@@ -7,8 +7,8 @@ use film::drawer::draw;
 use lent::fill;
 use lent::films::is_drawn;
 
-// Bytes of a film: more than any sheet of the vectors needs.
-const FILM: usize = 8192;
+// Bytes of a film: 14 records for each of 512 nodes, which no film exceeds.
+const FILM: usize = 35840;
 
 // Whether a line is in order and the drawer answers as it says.
 pub fn drawer_line(line: &[u8], counts: &mut [u64; 32]) -> bool {

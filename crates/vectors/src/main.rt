@@ -1,35 +1,51 @@
 // Has the library answer S1 to S12 and every line of the outside vectors in data/, and prints how many disagree.
+mod ask_agreement;
 mod ask_drawer;
 mod ask_reader;
 mod ask_router;
 mod told;
 
+use ask_agreement::agreement_line;
 use ask_drawer::drawer_line;
 use ask_reader::reader_line;
 use ask_router::router_line;
 use fields::find;
 use libc::STDOUT_FILENO;
 use std::num::wrapping_add_u64;
+use told::has_blank;
 
 // Whom the lines of a file ask.
 enum Asked {
     Router,
     Reader,
     Drawer,
+    Agreement,
 }
 
 const TEXT: usize = 1048576;
 
 fn main() {
+    ask_right();
+    ask_wrong();
+}
+
+// Specimens and vectors, with which the library is to agree.
+fn ask_right() {
     ask(Asked::Router, b"specimens.txt");
     ask(Asked::Reader, b"specimen-sheets.txt");
     ask(Asked::Drawer, b"specimen-sheets.txt");
     ask(Asked::Router, b"router.txt");
     ask(Asked::Reader, b"sheets.txt");
     ask(Asked::Drawer, b"sheets.txt");
+    ask(Asked::Agreement, b"agree.txt");
+}
+
+// Lines each of which has something wrong, so that every one is to disagree.
+fn ask_wrong() {
     ask(Asked::Router, b"wrong-router.txt");
     ask(Asked::Reader, b"wrong-sheets.txt");
     ask(Asked::Drawer, b"wrong-films.txt");
+    ask(Asked::Agreement, b"wrong-agree.txt");
 }
 
 // Reads a file of under 1,048,576 bytes, and answers it.
@@ -51,13 +67,21 @@ fn answer(asked: Asked, path: &[u8], text: &[u8]) {
         io::write_all(STDOUT_FILENO, b"too long: ");
     }
     let mut counts = [0u64; 32];
-    let wrong = lines(asked, path, text, &mut counts);
-    report(path, &counts, wrong);
+    let seen = lines(asked, path, text, &mut counts);
+    report(path, total(&counts), seen);
+    print_counts(&counts);
 }
 
-// How many lines of a text disagree; `counts` gains one at each answer's number.
-fn lines(asked: Asked, path: &[u8], text: &[u8], counts: &mut [u64; 32]) -> u64 {
+// Of a text's lines: how many disagree, and the row of how many has a blank.
+struct Seen {
+    wrong: u64,
+    blanks: u64,
+}
+
+// Asks every line of a text; `counts` gains one at each answer's number.
+fn lines(asked: Asked, path: &[u8], text: &[u8], counts: &mut [u64; 32]) -> Seen {
     let mut wrong = 0;
+    let mut blanks = 0;
     let mut line = 0;
     let mut at = 0;
     while at < text.len() {
@@ -65,9 +89,28 @@ fn lines(asked: Asked, path: &[u8], text: &[u8], counts: &mut [u64; 32]) -> u64 
         let is_right = line_right(asked, &text[at..end], counts);
         line = wrapping_add_u64(line, 1);
         wrong = noted(path, line, is_right, wrong);
+        blanks = blanks_after(asked, &text[at..end], blanks);
         at = end + 1;
     }
-    wrong
+    Seen { wrong, blanks }
+}
+
+// The number of lines whose row has a blank, after this one.
+fn blanks_after(asked: Asked, line: &[u8], blanks: u64) -> u64 {
+    if has_blank(line, row_field(asked)) {
+        return wrapping_add_u64(blanks, 1);
+    }
+    blanks
+}
+
+// The field that a line's row is in.
+fn row_field(asked: Asked) -> usize {
+    match asked {
+        Asked::Router => 0,
+        Asked::Reader => 3,
+        Asked::Drawer => 3,
+        Asked::Agreement => 0,
+    }
 }
 
 fn line_right(asked: Asked, line: &[u8], counts: &mut [u64; 32]) -> bool {
@@ -75,6 +118,7 @@ fn line_right(asked: Asked, line: &[u8], counts: &mut [u64; 32]) -> bool {
         Asked::Router => router_line(line, counts),
         Asked::Reader => reader_line(line, counts),
         Asked::Drawer => drawer_line(line, counts),
+        Asked::Agreement => agreement_line(line, counts),
     }
 }
 
@@ -92,13 +136,18 @@ fn noted(path: &[u8], line: u64, is_right: bool, wrong: u64) -> u64 {
     wrapping_add_u64(wrong, 1)
 }
 
-fn report(path: &[u8], counts: &[u64; 32], wrong: u64) {
+fn report(path: &[u8], answers: u64, seen: Seen) {
     io::write_all(STDOUT_FILENO, path);
     io::write_all(STDOUT_FILENO, b": ");
-    io::print_decimal(STDOUT_FILENO, total(counts));
+    io::print_decimal(STDOUT_FILENO, answers);
     io::write_all(STDOUT_FILENO, b" answers, ");
-    io::print_decimal(STDOUT_FILENO, wrong);
-    io::write_all(STDOUT_FILENO, b" disagreements\n");
+    io::print_decimal(STDOUT_FILENO, seen.wrong);
+    io::write_all(STDOUT_FILENO, b" disagreements, ");
+    io::print_decimal(STDOUT_FILENO, seen.blanks);
+    io::write_all(STDOUT_FILENO, b" rows with a blank\n");
+}
+
+fn print_counts(counts: &[u64; 32]) {
     let mut k = 0;
     while k < 32 {
         print_count(k as u64, counts[k]);

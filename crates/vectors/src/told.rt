@@ -1,6 +1,7 @@
 // What was answered and written, against a line.
 use answers::Said;
 use fields::bytes;
+use fields::find;
 use std::num::wrapping_add_u64;
 
 // Counts an answer at its number.
@@ -9,6 +10,14 @@ pub fn count(counts: &mut [u64; 32], said: Said) {
     if k < 32 {
         counts[k] = wrapping_add_u64(counts[k], 1);
     }
+}
+
+// Whether the row in field k of a line has a blank.
+pub fn has_blank(line: &[u8], k: usize) -> bool {
+    let mut row = [0u8; 1024];
+    let given = bytes(line, k, &mut row);
+    let n = given.count;
+    find(&row[..n], 0, 255) < n
 }
 
 // Prepares a buffer for the bytes of field k.

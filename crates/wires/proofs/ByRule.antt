@@ -5,11 +5,10 @@ use mathlib.Core.Logic.{_⊎_, inl, inr, _↔_}
 use mathlib.Core.Option.{none, some}
 use Prim.Native.Nat.{ℕ, suc, _+_, _-_, _*_, _≤_, _<_, min, max}
 use native.Mathlib.Omega.{arith}
-use Rattle.rules.specs.Sheet.{Entry, labels, upperOf, lowerOf, entriesOf}
+use Rattle.rules.specs.Sheet.{Entry, nets, upperOf, lowerOf, entriesOf}
 use Rattle.rules.specs.Judgement.{judge}
 use Rattle.rules.specs.Film.{Rec, across, upright, Wire, axis, wall, draw, records}
 use Rattle.rules.proofs.Legal.{Legal}
-use Rattle.rules.proofs.GivenBack.{length-labels}
 use Rattle.wires.specs.Levels.{own, level, Longest, Over, Ruled, run, move, stub, ByRule}
 use Rattle.wires.proofs.Among.{nil, lt-or-ge}
 use Rattle.wires.proofs.Steps.{Steps, steps}
@@ -75,8 +74,8 @@ module _ (pitch ku kl : ℕ) (wide : ku + kl < pitch) (deep : kl ≤ axis) {es :
       right o (inr p) (inr q) = omega arith
 
   -- a vertical is a stub or a move
-  ruled-upright : (n l c h : ℕ) → Upright pitch 0 (labels 0 [] es) (own ku es) film n l c h → Ruled pitch ku es (upright n l c h)
-  ruled-upright n l c h (a-stub j q e g u v) = stub j (omega (arith, length-labels 0 [] es)) e (g ∙ ap (λ m. pitch * m) (omega arith)) u v
+  ruled-upright : (n l c h : ℕ) → Upright pitch 0 (nets 0 [] es) (own ku es) film n l c h → Ruled pitch ku es (upright n l c h)
+  ruled-upright n l c h (a-stub j e g u v) = stub j e (g ∙ ap (λ m. pitch * m) (omega arith)) u v
   ruled-upright n l c h (a-move p a b e o o′ d u v) =
       subst (λ z. Ruled pitch ku es (upright n l z h)) e (move (heights p n a .0 o) (heights (suc p) n b .0 (subst (λ z. Over film n z b) (sym e) o′)) d u v)
 
@@ -90,9 +89,9 @@ module _ (pitch ku kl : ℕ) (wide : ku + kl < pitch) (deep : kl ≤ axis) {es :
       let l≡ : l ≡ min b a = omega arith in
       let h≡ : h ≡ max b a = omega arith in
       Memᴰ·cast (ap₂ (λ y z. upright x y (suc c) z) l≡ h≡) (turns parts (none-open {ku = ku} {kl = kl} .once) x c a b (heights c x a .1 p) (heights (suc c) x b .1 q) d)
-  ruled-is (stub i q e g u v) =
-      let t = joins.stub (film-trace pitch ku kl wide deep legal) i i (omega arith) (omega (arith, length-labels 0 [] es)) in
-      Memᴰ·cast (is-stub (t .0) (pitch * i) (e ∙ sym (t .2)) (u ∙ ap (min axis) (sym (t .3))) g (v ∙ ap (max axis) (sym (t .3)))) (t .1)
+  ruled-is (stub {x} i e g u v) =
+      let t = joins.stub (film-trace pitch ku kl wide deep legal) x i i (omega arith) e in
+      Memᴰ·cast (is-stub (t .0) (pitch * i) (sym (t .2)) (u ∙ ap (min axis) (sym (t .3))) g (v ∙ ap (max axis) (sym (t .3)))) (t .1)
 
   pub by-rule : ByRule pitch ku es film
   by-rule = record { exactly = λ r. (is-ruled r, ruled-is); once = distinct parts }

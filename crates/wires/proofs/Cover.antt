@@ -3,6 +3,7 @@ use mathlib.Core.Path.{_≡_, refl, sym, ap, _∙_, subst}
 use mathlib.Core.Bool.{true}
 use mathlib.Core.List.{List, List·Memᴰ, List·Memᴰ·head, List·Memᴰ·tail, List·Memᴰ·not-nil}
 use mathlib.Core.Logic.{inl, inr}
+use mathlib.Core.Option.{Option}
 use Prim.Native.Nat.{ℕ, _≤_, _<_}
 use native.Mathlib.Omega.{arith}
 use borrow.Author.Tests.{le-leb, lt-ltb, eq-eqb}
@@ -14,7 +15,7 @@ use Rattle.wires.specs.Levels.{Over}
 use Rattle.wires.proofs.Among.{All, more-in}
 use Rattle.wires.proofs.Gap.{Moves, still, move}
 use Rattle.wires.proofs.Trace.{Trace, Track}
-use Rattle.wires.proofs.Steps.{nets, in-nets, Runs, Good, Steps, more-times, not-wall, turn-event}
+use Rattle.wires.proofs.Steps.{openNets, in-nets, Runs, Good, Steps, more-times, not-wall, turn-event}
 use Rattle.wires.proofs.Rules.{Ahead, run-ahead, ahead, cuts}
 use Rattle.wires.proofs.Joins.{run-ends}
 
@@ -29,7 +30,7 @@ over-open {x = x} {n} {c} {h} {ws} s k o = go (ahead s (across n h (o .left) (o 
     go (run-ahead a (inl p)) = absurd (omega (arith, o .begins))
     go (run-ahead a (inr p)) = (o .left, p)
 
-pub over-wire : {pitch ku kl i x : ℕ} {ws : List Wire} {row hs : List ℕ} {film : List Rec} → Trace pitch ku kl i x ws row hs film
+pub over-wire : {pitch ku kl i x : ℕ} {ws : List Wire} {pins : List (Option ℕ)} {hs : List ℕ} {film : List Rec} → Trace pitch ku kl i x ws pins hs film
     → (w : Wire) → List·Memᴰ w ws → (c : ℕ) → w .since ≤ c → c < x → Over film (w .net) c (w .height)
 unfolding ran
 over-wire t w d c a b = let q = run-ends t w d in record { left = w .since; right = q .0; among = q .2; begins = a; ends = omega (arith, q .1) }
@@ -52,12 +53,12 @@ overs-same n c h (List·Memᴰ·head e) (List·Memᴰ·tail d) o p = absurd (ome
 overs-same n c h (List·Memᴰ·tail d) (List·Memᴰ·head e) o p = absurd (omega (arith, overs-one n c d o, rw (ap (over n c) (sym e) ∙ p) at h))
 overs-same n c h (List·Memᴰ·tail d) (List·Memᴰ·tail e) o p = overs-same n c (omega arith) d e o p
 
-pub over-same : {ku kl x n c h k : ℕ} {ws : List Wire} {film : List Rec} → Steps ku kl x ws film → times n (nets ws) ≤ 1
+pub over-same : {ku kl x n c h k : ℕ} {ws : List Wire} {film : List Rec} → Steps ku kl x ws film → times n (openNets ws) ≤ 1
     → (o : Over film n c h) (p : Over film n c k) → across n h (o .left) (o .right) ≡ across n k (p .left) (p .right)
 over-same {n = n} {c} {h} {k} s t o p =
     overs-same n c (cuts s n t c) (o .among) (p .among) (over-true n c h (o .left) (o .right) (o .begins) (o .ends)) (over-true n c k (p .left) (p .right) (p .begins) (p .ends))
 
-pub over-once : {ku kl x n c h k : ℕ} {ws : List Wire} {film : List Rec} → Steps ku kl x ws film → times n (nets ws) ≤ 1 → Over film n c h → Over film n c k → h ≡ k
+pub over-once : {ku kl x n c h k : ℕ} {ws : List Wire} {film : List Rec} → Steps ku kl x ws film → times n (openNets ws) ≤ 1 → Over film n c h → Over film n c k → h ≡ k
 over-once s t o p = let e = over-same s t o p in cc
 
 -- ---- the moves of a gap
@@ -68,13 +69,13 @@ module _ {P : ℕ → Type 0} where
   moves-last (move p k m m′ a t) = omega (arith, moves-last t)
 
   -- runs end before the column after the last move, and are of nets that were open
-  pub moves-runs : {x y n h l r : ℕ} {ws vs : List Wire} {film : List Rec} → Moves P x ws film y vs → List·Memᴰ (across n h l r) film → (r < y) × (0 < times n (nets ws))
+  pub moves-runs : {x y n h l r : ℕ} {ws vs : List Wire} {film : List Rec} → Moves P x ws film y vs → List·Memᴰ (across n h l r) film → (r < y) × (0 < times n (openNets ws))
   unfolding ran wall bent
   moves-runs still d = absurd (List·Memᴰ·not-nil d)
   moves-runs {n = n} {r = r} (move {x} {w = w} {ws = ws} p k m m′ a t) (List·Memᴰ·head e) =
       let r≡ : r ≡ x = cc in
       let n≡ : w .net ≡ n = cc in
-      (omega (arith, moves-last t), subst (λ z. 0 < times z (nets ws)) n≡ (in-nets (more-in m)))
+      (omega (arith, moves-last t), subst (λ z. 0 < times z (openNets ws)) n≡ (in-nets (more-in m)))
   moves-runs (move p k m m′ a t) (List·Memᴰ·tail (List·Memᴰ·head e)) = absurd (not-wall e)
   moves-runs {n = n} (move p k m m′ a t) (List·Memᴰ·tail (List·Memᴰ·tail d)) = let q = moves-runs t d in (q .0, omega (arith, q .1, more-times n m, more-times n m′))
 

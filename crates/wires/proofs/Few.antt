@@ -1,4 +1,4 @@
--- A film has at most 14 records a node: in a gap each of at most six wires moves at most once, and a node has its stub and at an E a last run.
+-- A film has at most 14 records a node: in a gap each of at most six wires moves at most once, and a node has at most its stub and a last run.
 use mathlib.Core.Path.{_≡_, refl, ap, _∙_}
 use mathlib.Core.Bool.{Bool, true, false}
 use mathlib.Core.List.{List, [], _∷_, _++_}
@@ -9,11 +9,11 @@ use lib.ListN.{length, getD, length-append}
 use lib.Dec.{ltb}
 use borrow.Author.Tests.{le-ltb}
 use Rattle.rules.specs.Basic.{pick}
-use Rattle.rules.specs.Row.{Kind, B, M, E}
-use Rattle.rules.specs.Street.{counted}
+use Rattle.rules.specs.Row.{Kind, B, M, E, N}
+use Rattle.rules.specs.Street.{last, counted}
 use Rattle.rules.specs.Sheet.{kindIn, Entry, begun, upperOf, lowerOf, countOf}
 use Rattle.rules.specs.Judgement.{left, judge}
-use Rattle.rules.specs.Film.{axis, heightAt, upper, target, Wire, wall, bent, drawn, climb, sink, gap, opened, closed, ending, draw, records}
+use Rattle.rules.specs.Film.{axis, heightAt, upperAt, target, Wire, bent, drawn, climb, sink, gap, opened, closed, marks, draw, records}
 use Rattle.rules.proofs.Lists.{length-put, length-cut}
 use Rattle.rules.proofs.SheetFields.{length-entriesOf}
 use Rattle.rules.proofs.Legal.{Legal, done, then}
@@ -72,33 +72,36 @@ module _ (t : ℕ → ℕ) (x : ℕ) (ws : List Wire) where
       let up = climb t 0 (suc x) ws in
       omega (arith, moves-few t 0 (suc x) (up .column) ws, length-append (up .film) (sink t 0 (up .column) (up .wires) .film))
 
-ending-few : (k : Kind) (x : ℕ) (w : Wire) → length (ending k x w) ≤ 1
-unfolding ending
-ending-few B x w = omega arith
-ending-few M x w = omega arith
-ending-few E x w = omega arith
+marks-few : (k : Kind) (x : ℕ) (w : Wire) → length (marks k x w) ≤ 2
+unfolding marks
+marks-few B x w = omega arith
+marks-few M x w = omega arith
+marks-few E x w = omega arith
+marks-few N x w = omega arith
 
 -- as many wires are open as nets
-after : (k : Kind) (n h x a : ℕ) (ws : List Wire) → a < counted k (length ws) → length (closed k a (opened k n h x a ws)) ≡ left k (length ws)
-unfolding closed opened counted left
+after : (k : Kind) (n h x a : ℕ) (ws : List Wire) → a < last k (counted k (length ws)) → length (closed k a (opened k n h x a ws)) ≡ left k (length ws)
+unfolding closed opened last counted left
 after B n h x a ws l = length-put a (record { net = n; height = h; since = x }) ws
 after M n h x a ws l = refl
 after E n h x a ws l = omega (arith, length-cut a ws l)
+after N n h x a ws l = refl
 
 few-before : (k : Kind) (b : ℕ) → b ≤ counted k b
 unfolding counted
 few-before B b = omega arith
 few-before M b = omega arith
 few-before E b = omega arith
+few-before N b = omega arith
 
 module _ (pitch ku kl : ℕ) (narrow : ku + kl ≤ 6) where
   pub draw-few : {b : ℕ} {es : List Entry} → Legal ku kl b es → (i n : ℕ) (ws : List Wire) → length ws ≡ b
       → length (draw pitch ku i n ws es) ≤ 14 * length es
   unfolding draw
   draw-few done i n ws e = omega arith
-  draw-few (then {b} {f} {a} {es} d fit l) i n ws e =
+  draw-few (then {b} {f} {a} {es} fit l) i n ws e =
       let k = kindIn f in
-      let u = upper ku (suc a) in
+      let u = upperAt k ku a in
       let x = pitch * i in
       let g = gap (target k u a) (pitch * (i - 1)) ws in
       let c = gap-count (target k u a) (pitch * (i - 1)) ws in
@@ -106,7 +109,7 @@ module _ (pitch ku kl : ℕ) (narrow : ku + kl ≤ 6) where
       let w = getD vs a (record { net = n; height = axis; since = x }) in
       let r = draw pitch ku (suc i) (begun k n) (closed k a vs) es in
       let s : length (g .wires) ≡ b = c ∙ e in
-      let o : a < counted k (length (g .wires)) = rw s (omega (arith, fit .high)) in
+      let o : a < last k (counted k (length (g .wires))) = rw s (fit .high) in
       let p = after k n (heightAt u (suc a)) x a (g .wires) o ∙ ap (left k) s in
       omega (
         arith,
@@ -114,10 +117,10 @@ module _ (pitch ku kl : ℕ) (narrow : ku + kl ≤ 6) where
         e,
         few-before k b,
         gap-few (target k u a) (pitch * (i - 1)) ws,
-        ending-few k x w,
+        marks-few k x w,
         draw-few l (suc i) (begun k n) (closed k a vs) p,
-        length-append (g .film) (wall x axis w ∷ ending k x w ++ r),
-        length-append (ending k x w) r,
+        length-append (g .film) (marks k x w ++ r),
+        length-append (marks k x w) r,
       )
 
 pub records-few : (s : List ℕ) → judge s ≡ none → length (records 16 s) ≤ 14 * countOf s

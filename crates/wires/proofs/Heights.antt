@@ -8,10 +8,11 @@ use lib.ListN.{length, getD}
 use lib.Dec.{ltb}
 use borrow.Author.Tests.{le-leb, lt-leb, lt-ltb, le-ltb}
 use Rattle.rules.specs.Basic.{pick, put, cut}
-use Rattle.rules.specs.Row.{Kind, B, M, E}
-use Rattle.rules.specs.Street.{counted}
-use Rattle.rules.specs.Film.{Wire, axis, heightAt, target, opened}
-use Rattle.rules.proofs.Fits.{Fits}
+use Rattle.rules.specs.Row.{Kind, B, M, E, N}
+use Rattle.rules.specs.Street.{last, counted}
+use Rattle.rules.specs.Film.{Wire, axis, upper, upperAt, heightAt, target, opened}
+use Rattle.rules.proofs.Fits.{FitsAt, Wired}
+use Rattle.rules.proofs.Levels.{both-streets}
 use Rattle.wires.proofs.Among.{All, nil, cons, lt-or-ge}
 use Rattle.wires.proofs.Gap.{Clear, Falling, bare, under, Falls, Each, Reached, no-wire, wire, reached-all}
 use Rattle.wires.proofs.Trace.{Track}
@@ -45,12 +46,14 @@ unfoldable pub place : Kind → (a q : ℕ) → ℕ
 place B a q = pick (ltb q a) (suc q) (suc (suc q))
 place M a q = suc q
 place E a q = suc q
+place N a q = suc q
 
 target-place : (k : Kind) (u a q : ℕ) → target k u a q ≡ heightAt u (place k a q)
 unfolding target place
 target-place B u a q = refl
 target-place M u a q = refl
 target-place E u a q = refl
+target-place N u a q = refl
 
 place-above : (a q : ℕ) → q < a → place B a q ≡ suc q
 unfolding place pick
@@ -71,6 +74,7 @@ place-rises B a i j h = go (lt-or-ge i a) (lt-or-ge j a)
     go (inr p) (inr q) = omega (arith, place-below a i p, place-below a j q)
 place-rises M a i j h = omega arith
 place-rises E a i j h = omega arith
+place-rises N a i j h = omega arith
 
 place-within : (k : Kind) (a i b : ℕ) → i < b → (1 ≤ place k a i) × (place k a i ≤ counted k b)
 unfolding place counted
@@ -81,17 +85,26 @@ place-within B a i b h = go (lt-or-ge i a)
     go (inr p) = (omega (arith, place-below a i p), omega (arith, place-below a i p))
 place-within M a i b h = (omega arith, omega arith)
 place-within E a i b h = (omega arith, omega arith)
+place-within N a i b h = (omega arith, omega arith)
 
--- ---- at a node whose net stands at position a + 1 of c, with u wires in the upper street
+-- ---- at a node of kind k at position a + 1, with c open nets and u wires in the upper street
 
-pub record Laid (ku kl u a c : ℕ) : Type 0 where
-  pub law : u ≡ min (suc a) ku
-  pub fits : Fits ku kl (suc a) c
+pub record Laid (k : Kind) (ku kl u a c : ℕ) : Type 0 where
+  pub law : u ≡ upperAt k ku a
+  pub fits : FitsAt k ku kl (suc a) c
   pub deep : kl ≤ axis
 
-module _ {ku kl u a c : ℕ} (laid : Laid ku kl u a c) where
+-- u, and the last position, where the node has a wire of its own
+wired : (k : Kind) (ku a c : ℕ) → Wired k → (upperAt k ku a ≡ min (suc a) ku) × (last k c ≡ c)
+unfolding upperAt upper last
+wired B ku a c w = (refl, refl)
+wired M ku a c w = (refl, refl)
+wired E ku a c w = (refl, refl)
+wired N ku a c w = absurd w
+
+module _ {k : Kind} {ku kl u a c : ℕ} (laid : Laid k ku kl u a c) where
   room : (u ≤ ku) × (c ≤ u + kl)
-  room = (omega (arith, laid .law), omega (arith, laid .law, laid .fits .upper, laid .fits .lower, laid .fits .sum))
+  room = rw (laid .law) (both-streets k (laid .fits))
 
   pub position-falls : (p q : ℕ) → p < q → q ≤ c → heightAt u q < heightAt u p
   position-falls p q h k = heights-fall u p q h (omega (arith, room .1, laid .deep))
@@ -99,25 +112,34 @@ module _ {ku kl u a c : ℕ} (laid : Laid ku kl u a c) where
   pub position-track : (q : ℕ) → 1 ≤ q → q ≤ c → Track ku kl (heightAt u q)
   position-track q h k = height-track ku kl u q (laid .deep) (room .0) h (omega (arith, room .1))
 
-  pub next-to-axis : (heightAt u (suc a) ≤ axis + 1) × (axis - 1 ≤ heightAt u (suc a))
-  next-to-axis = go (lt-or-ge u (suc a))
+  own-high : Wired k → suc a ≤ c
+  own-high own = rw (wired k ku a c own .1) at (laid .fits .high)
+
+  pub own-track : Wired k → Track ku kl (heightAt u (suc a))
+  own-track own = position-track (suc a) (omega arith) (own-high own)
+
+  pub next-to-axis : Wired k → (heightAt u (suc a) ≤ axis + 1) × (axis - 1 ≤ heightAt u (suc a))
+  next-to-axis own = go (lt-or-ge u (suc a))
     where
+      law : u ≡ min (suc a) ku
+      law = laid .law ∙ wired k ku a c own .0
+
       go : (u < suc a) ⊎ (suc a ≤ u) → (heightAt u (suc a) ≤ axis + 1) × (axis - 1 ≤ heightAt u (suc a))
-      go (inl k) = (omega (arith, height-down u (suc a) k), omega (arith, height-down u (suc a) k, laid .law, laid .fits .upper))
-      go (inr k) = (omega (arith, height-up u (suc a) k, laid .law), omega (arith, height-up u (suc a) k))
+      go (inl k) = (omega (arith, height-down u (suc a) k), omega (arith, height-down u (suc a) k, law, laid .fits .upper))
+      go (inr k) = (omega (arith, height-up u (suc a) k, law), omega (arith, height-up u (suc a) k))
 
   -- the stub crosses no wire at another position
-  pub stub-clear : (q : ℕ) → 1 ≤ q → q ≤ c → q ≢ suc a → Clear axis (heightAt u (suc a)) (heightAt u q)
-  stub-clear q h k d l m = go (lt-or-ge q (suc a))
+  pub stub-clear : Wired k → (q : ℕ) → 1 ≤ q → q ≤ c → q ≢ suc a → Clear axis (heightAt u (suc a)) (heightAt u q)
+  stub-clear own q h k d l m = go (lt-or-ge q (suc a))
     where
       t : Track ku kl (heightAt u q)
       t = position-track q h k
 
       go : (q < suc a) ⊎ (suc a ≤ q) → ⊥
-      go (inl p) = omega (arith, t .off, next-to-axis, position-falls q (suc a) p (laid .fits .high))
-      go (inr p) = omega (arith, t .off, next-to-axis, position-falls (suc a) q (omega arith) k)
+      go (inl p) = omega (arith, t .off, next-to-axis own, position-falls q (suc a) p (own-high own))
+      go (inr p) = omega (arith, t .off, next-to-axis own, position-falls (suc a) q (omega arith) k)
 
-module _ {ku kl u a : ℕ} (b : ℕ) (k : Kind) (laid : Laid ku kl u a (counted k b)) where
+module _ {ku kl u a : ℕ} (b : ℕ) (k : Kind) (laid : Laid k ku kl u a (counted k b)) where
   pub target-falls : Falls (target k u a) 0 b
   target-falls i j l h m =
       rw (target-place k u a i, target-place k u a j)
@@ -153,12 +175,13 @@ put-settled u a (suc k) q w (v ∷ ws) e l h (wire g r) =
     wire (g ∙ target-place B u a q ∙ ap (heightAt u) (place-above a q (omega arith))) (put-settled u a k (suc q) w ws (omega arith) (omega arith) h r)
 
 -- the wires at a node, its own among them, have the heights of their positions
-pub settled : (k : Kind) (u a n x : ℕ) (ws : List Wire) → a < counted k (length ws) → Reached (target k u a) 0 ws
+pub settled : (k : Kind) (u a n x : ℕ) (ws : List Wire) → a < last k (counted k (length ws)) → Reached (target k u a) 0 ws
     → Settled u 0 (opened k n (heightAt u (suc a)) x a ws)
-unfolding opened counted target
+unfolding opened last counted target
 settled B u a n x ws h r = put-settled u a a 0 (record { net = n; height = heightAt u (suc a); since = x }) ws (omega arith) (omega arith) refl r
 settled M u a n x ws h r = reached-same (λ i. refl) r
 settled E u a n x ws h r = reached-same (λ i. refl) r
+settled N u a n x ws h r = reached-same (λ i. refl) r
 
 pub settled-falling : {t : ℕ → ℕ} {q : ℕ} {ws : List Wire} → Reached t q ws → Falls t q (length ws) → Falling ws
 settled-falling no-wire f = bare

@@ -1,15 +1,14 @@
 -- The film of legal entries obeys the wire rules, for any pitch larger than the number of wires that can be open, and is tidy; so is
 -- that of every accepted sheet.
-use mathlib.Core.Path.{_≡_, refl, sym, _∙_}
+use mathlib.Core.Path.{_≡_, refl}
 use mathlib.Core.List.{List, []}
 use mathlib.Core.Option.{none}
-use Prim.Native.Nat.{ℕ, _+_, _*_, _≤_, _<_}
+use Prim.Native.Nat.{ℕ, _+_, _≤_, _<_}
 use native.Mathlib.Omega.{arith}
-use lib.ListN.{getD}
-use Rattle.rules.specs.Sheet.{Entry, labels, upperOf, lowerOf, entriesOf, rowOf}
+use Rattle.rules.specs.Sheet.{Entry, nets, upperOf, lowerOf, entriesOf, pinsOf}
 use Rattle.rules.specs.Judgement.{judge}
-use Rattle.rules.specs.Film.{Wire, axis, wall, draw, records}
-use Rattle.rules.specs.WireRules.{netOf, On, WireRules, Tidy}
+use Rattle.rules.specs.Film.{axis, draw, records}
+use Rattle.rules.specs.WireRules.{WireRules, Tidy}
 use Rattle.rules.proofs.Open.{times}
 use Rattle.rules.proofs.Legal.{Legal}
 use Rattle.rules.proofs.Accepted.{judge-passed, takes-le}
@@ -19,20 +18,15 @@ use Rattle.wires.proofs.Gap.{bare}
 use Rattle.wires.proofs.Trace.{Trace}
 use Rattle.wires.proofs.Steps.{Steps, steps}
 use Rattle.wires.proofs.Rules as rules
-use Rattle.wires.proofs.Joins.{Fine, joins, stub}
+use Rattle.wires.proofs.Joins as joins
 use Rattle.wires.proofs.Drawn.{from, draw-trace}
 
-pub none-open : {ku kl : ℕ} → Fine ku kl 0 []
+pub none-open : {ku kl : ℕ} → joins.Fine ku kl 0 []
 unfolding times
 none-open = record { good = nil; once = λ m. omega arith }
 
--- the stub of a pin is on it
-stub-on : (c : ℕ) (w : Wire) → On (wall c axis w) c axis × (netOf (wall c axis w) ≡ w .net)
-unfolding wall On netOf
-stub-on c w = ((refl, omega arith, omega arith), refl)
-
 module _ (pitch ku kl : ℕ) (wide : ku + kl < pitch) (deep : kl ≤ axis) {es : List Entry} (legal : Legal ku kl 0 es) where
-  pub film-trace : Trace pitch ku kl 0 0 [] (labels 0 [] es) (own ku es) (draw pitch ku 0 0 [] es)
+  pub film-trace : Trace pitch ku kl 0 0 [] (nets 0 [] es) (own ku es) (draw pitch ku 0 0 [] es)
   unfolding from times
   film-trace =
       draw-trace pitch ku kl wide deep legal 0 0 [] refl (λ e. refl) bare
@@ -41,16 +35,13 @@ module _ (pitch ku kl : ℕ) (wide : ku + kl < pitch) (deep : kl ≤ axis) {es :
   film-steps : Steps ku kl 0 [] (draw pitch ku 0 0 [] es)
   film-steps = steps film-trace
 
-  pub wire-rules : WireRules pitch ku kl (labels 0 [] es) (draw pitch ku 0 0 [] es)
+  pub wire-rules : WireRules pitch ku kl (nets 0 [] es) (draw pitch ku 0 0 [] es)
   unfolding times
   wire-rules =
       record {
         apart = rules.apart film-steps;
-        pins = λ r i d h o.
-            let s = stub film-trace i i (omega arith) h in
-            let p = stub-on (pitch * i) (s .0) in
-            rules.apart film-steps r (wall (pitch * i) axis (s .0)) (pitch * i) axis d (s .1) o (p .0) ∙ p .1 ∙ s .2;
-        joins = λ i j h k e. joins film-trace none-open (getD (labels 0 [] es) i 0) i i j j (omega arith) (omega arith) h k refl (sym e);
+        own = λ r i d h o. joins.own film-trace none-open r i i d (omega arith) h o;
+        joins = λ net i j e e′. joins.joins film-trace none-open net i i j j (omega arith) (omega arith) e e′;
         cuts = λ net c. rules.cuts film-steps net (omega arith) c;
         tracks = λ n h l r d. let t = rules.on-tracks film-steps nil n h l r d .0 in (t .low, t .high, t .off);
       }
@@ -76,8 +67,8 @@ module _ (s : List ℕ) (accepted : judge s ≡ none) where
       let t = takes-le (upperOf s) (lowerOf s) (p .tracks) in
       record { wide = omega arith; deep = omega arith; legal = p .legal }
 
-  pub sheet-rules : WireRules 16 (upperOf s) (lowerOf s) (rowOf s) (records 16 s)
-  unfolding rowOf records
+  pub sheet-rules : WireRules 16 (upperOf s) (lowerOf s) (pinsOf s) (records 16 s)
+  unfolding pinsOf records
   sheet-rules = let p = sheet-legal in wire-rules 16 (upperOf s) (lowerOf s) (p .wide) (p .deep) (p .legal)
 
   pub sheet-tidy : Tidy (upperOf s) (lowerOf s) (records 16 s)

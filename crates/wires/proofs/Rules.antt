@@ -10,7 +10,7 @@ use Rattle.rules.proofs.Open.{times}
 use Rattle.wires.proofs.Among.{All, all-at, lt-or-ge}
 use Rattle.wires.proofs.Gap.{Clear}
 use Rattle.wires.proofs.Trace.{Track}
-use Rattle.wires.proofs.Steps.{nets, Runs, Part, run, vertical, Good, marks, marks-times, Event, Steps, done, step}
+use Rattle.wires.proofs.Steps.{openNets, Runs, Part, run, vertical, Good, crossings, crossings-times, Event, Steps, done, step}
 
 -- a record from column x on, with the wires ws open there: it begins there or is the run of one of them
 pub data Ahead (x : ℕ) (ws : List Wire) : Rec → Type 0 where
@@ -123,20 +123,20 @@ module _ {ku kl : ℕ} where
   -- ---- one horizontal of a net over a cut
 
   -- before column x there are the runs of the open wires alone
-  pub overs-open : {x : ℕ} {ws : List Wire} {film : List Rec} → Steps ku kl x ws film → (m c : ℕ) → c < x → overs m c film ≡ marks m c ws
-  unfolding overs marks
+  pub overs-open : {x : ℕ} {ws : List Wire} {film : List Rec} → Steps ku kl x ws film → (m c : ℕ) → c < x → overs m c film ≡ crossings m c ws
+  unfolding overs crossings
   overs-open done m c h = refl
   overs-open (step {y = y} {recs = recs} {film = film} e s) m c h =
       let k : c < suc y = omega (arith, e .later) in
       omega (arith, overs-append m c recs film, overs-open s m c k, e .crossed m c (omega (arith, e .later)))
 
-  pub cuts : {x : ℕ} {ws : List Wire} {film : List Rec} → Steps ku kl x ws film → (m : ℕ) → times m (nets ws) ≤ 1 → (c : ℕ) → overs m c film ≤ 1
+  pub cuts : {x : ℕ} {ws : List Wire} {film : List Rec} → Steps ku kl x ws film → (m : ℕ) → times m (openNets ws) ≤ 1 → (c : ℕ) → overs m c film ≤ 1
   unfolding overs
   cuts done m o c = omega arith
   cuts (step {y = y} {ws = ws} {recs = recs} {film = film} e s) m o c = go (lt-or-ge c y) (cuts s m (e .once m o) c)
     where
       go : (c < y) ⊎ (y ≤ c) → overs m c film ≤ 1 → overs m c (recs ++ film) ≤ 1
-      go (inl h) ih = omega (arith, overs-append m c recs film, overs-open s m c (omega arith), e .crossed m c h, marks-times m c ws)
+      go (inl h) ih = omega (arith, overs-append m c recs film, overs-open s m c (omega arith), e .crossed m c h, crossings-times m c ws)
       go (inr h) ih = omega (arith, overs-append m c recs film, e .behind m c h)
 
   -- ---- tracks and lengths
@@ -159,3 +159,13 @@ module _ {ku kl : ℕ} where
           → (l < h) × (axis - kl ≤ l) × (h ≤ axis + ku)
       go (inl i) ih = part-wall ku kl (all-at (e .parts) i) (e .street g)
       go (inr i) ih = ih i
+
+  -- what touches the axis is a vertical, at column x or later
+  pub on-axis : {x : ℕ} {ws : List Wire} {film : List Rec} → Steps ku kl x ws film → All (Good ku kl x) ws
+      → (r : Rec) (c : ℕ) → List·Memᴰ r film → On r c axis → x ≤ c
+  unfolding On
+  on-axis s g (across n h l r) c d o = absurd (on-tracks s g n h l r d .0 .off (sym (o .0)))
+  on-axis {x} {ws} s g (upright n l y h) c d o = go (ahead s (upright n l y h) d)
+    where
+      go : Ahead x ws (upright n l y h) → x ≤ c
+      go (wall-ahead k) = omega (arith, o .0)

@@ -3,6 +3,7 @@ use mathlib.Core.Path.{_≡_, refl, sym, ap, ap₂, _∙_, subst}
 use mathlib.Core.Bool.{Bool, true, false, _&&_}
 use mathlib.Core.List.{List, [], _∷_, _++_, map, List·Memᴰ, List·Memᴰ·head, List·Memᴰ·tail, List·Memᴰ·not-nil}
 use mathlib.Core.Logic.{_≢_, _⊎_, inl, inr}
+use mathlib.Core.Option.{Option}
 use Prim.Native.Nat.{ℕ, suc, _+_, _-_, _*_, _≤_, _<_, min, max}
 use native.Mathlib.Omega.{arith}
 use lib.Dec.{leb, eqb}
@@ -14,10 +15,10 @@ use Rattle.rules.proofs.Open.{one, one-same, one-other, times}
 use Rattle.wires.specs.Levels.{Distinct, nothing, another}
 use Rattle.wires.proofs.Among.{All, nil, cons, all-at, More, here, there, more-cases, more-in, more-still, all-more, all-less, all-map}
 use Rattle.wires.proofs.Gap.{Aside, Clear}
-use Rattle.wires.proofs.Trace.{Track, Trace, stop, turn, begin, meet, end}
+use Rattle.wires.proofs.Trace.{Track, Trace, stop, turn, begin, meet, end, blank}
 
-abbrev pub nets : List Wire → List ℕ
-nets ws = map (λ w. w .net) ws
+abbrev pub openNets : List Wire → List ℕ
+openNets ws = map (λ w. w .net) ws
 
 -- an open wire of the net n runs at height h from column l on
 pub record Runs (ws : List Wire) (n h l : ℕ) : Type 0 where
@@ -39,12 +40,12 @@ pub record Good (ku kl x : ℕ) (w : Wire) : Type 0 where
   pub since : w .since < x
 
 -- 1 for a wire of the net that runs over the cut between columns c and c + 1
-unfoldable pub mark : (net c : ℕ) → Wire → ℕ
-mark net c w = pick (eqb (w .net) net && leb (w .since) c) 1 0
+unfoldable pub crossing : (net c : ℕ) → Wire → ℕ
+crossing net c w = pick (eqb (w .net) net && leb (w .since) c) 1 0
 
-unfoldable pub marks : (net c : ℕ) → List Wire → ℕ
-marks net c [] = 0
-marks net c (w ∷ ws) = mark net c w + marks net c ws
+unfoldable pub crossings : (net c : ℕ) → List Wire → ℕ
+crossings net c [] = 0
+crossings net c (w ∷ ws) = crossing net c w + crossings net c ws
 
 -- an event of a net at column y, x or later, from the wires ws to the wires vs, between the heights a and b
 pub record Event (ku kl x y : ℕ) (ws : List Wire) (recs : List Rec) (vs : List Wire) : Type 0 where
@@ -59,14 +60,14 @@ pub record Event (ku kl x y : ℕ) (ws : List Wire) (recs : List Rec) (vs : List
   -- all other wires are clear of it
   pub clear : (v : Wire) → List·Memᴰ v vs → (v .net ≡ net) ⊎ Clear a b (v .height)
   -- a wire after it was there before or begins at y, and then its net is new or its vertical is drawn
-  pub turned : ((m : ℕ) → times m (nets ws) ≤ 1) → (v : Wire) → List·Memᴰ v vs
+  pub turned : ((m : ℕ) → times m (openNets ws) ≤ 1) → (v : Wire) → List·Memᴰ v vs
       → List·Memᴰ v ws ⊎ ((w : Wire) → List·Memᴰ w ws → w .net ≡ v .net → List·Memᴰ (upright (v .net) (min (v .height) (w .height)) y (max (v .height) (w .height))) recs)
   pub kept : (v : Wire) → List·Memᴰ v vs → List·Memᴰ v ws ⊎ (v .since ≡ y)
   -- over a cut before y its runs and the wires after it are the wires before it; over a later one it draws nothing
-  pub crossed : (m c : ℕ) → c < y → overs m c recs + marks m c vs ≡ marks m c ws
+  pub crossed : (m c : ℕ) → c < y → overs m c recs + crossings m c vs ≡ crossings m c ws
   pub behind : (m c : ℕ) → y ≤ c → overs m c recs ≡ 0
   -- wires keep to a net each and to the tracks
-  pub once : (m : ℕ) → times m (nets ws) ≤ 1 → times m (nets vs) ≤ 1
+  pub once : (m : ℕ) → times m (openNets ws) ≤ 1 → times m (openNets vs) ≤ 1
   pub good : All (Good ku kl x) ws → All (Good ku kl (suc y)) vs
   pub street : All (Good ku kl x) ws → (a ≢ b) × (axis - kl ≤ min a b) × (max a b ≤ axis + ku)
 
@@ -77,49 +78,49 @@ pub data Steps (ku kl : ℕ) : ℕ → List Wire → List Rec → Type 0 where
 
 -- ---- runs over a cut
 
-mark-both : (net y c : ℕ) (w : Wire) → c < y → pick (over net c (ran y w)) 1 0 ≡ mark net c w
-unfolding over ran mark
-mark-both net y c w h = rw (lt-ltb c y h) (ap (λ t. pick t 1 0) (go (eqb (w .net) net) (leb (w .since) c)))
+crossing-both : (net y c : ℕ) (w : Wire) → c < y → pick (over net c (ran y w)) 1 0 ≡ crossing net c w
+unfolding over ran crossing
+crossing-both net y c w h = rw (lt-ltb c y h) (ap (λ t. pick t 1 0) (go (eqb (w .net) net) (leb (w .since) c)))
   where
     go : (p q : Bool) → p && q && true ≡ p && q
     go true true = refl
     go true false = refl
     go false q = refl
 
-mark-past : (net y c : ℕ) (w : Wire) → y ≤ c → _≡_ {A = ℕ} (pick (over net c (ran y w)) 1 0) 0
+crossing-past : (net y c : ℕ) (w : Wire) → y ≤ c → _≡_ {A = ℕ} (pick (over net c (ran y w)) 1 0) 0
 unfolding over ran pick
-mark-past net y c w h = rw (le-ltb c y h) (ap (λ t. pick t 1 0) (go (eqb (w .net) net) (leb (w .since) c)))
+crossing-past net y c w h = rw (le-ltb c y h) (ap (λ t. pick t 1 0) (go (eqb (w .net) net) (leb (w .since) c)))
   where
     go : (p q : Bool) → p && q && false ≡ false
     go true true = refl
     go true false = refl
     go false q = refl
 
-mark-later : (net c : ℕ) (w : Wire) → c < w .since → mark net c w ≡ 0
-unfolding mark pick
-mark-later net c w h = rw (lt-leb (w .since) c h) (ap (λ t. pick t 1 0) (go (eqb (w .net) net)))
+crossing-later : (net c : ℕ) (w : Wire) → c < w .since → crossing net c w ≡ 0
+unfolding crossing pick
+crossing-later net c w h = rw (lt-leb (w .since) c h) (ap (λ t. pick t 1 0) (go (eqb (w .net) net)))
   where
     go : (p : Bool) → p && false ≡ false
     go true = refl
     go false = refl
 
-pub more-marks : (net c : ℕ) {w : Wire} {l m : List Wire} → More w l m → marks net c m ≡ mark net c w + marks net c l
-unfolding marks
-more-marks net c here = refl
-more-marks net c (there k) = omega (arith, more-marks net c k)
+pub more-crossings : (net c : ℕ) {w : Wire} {l m : List Wire} → More w l m → crossings net c m ≡ crossing net c w + crossings net c l
+unfolding crossings
+more-crossings net c here = refl
+more-crossings net c (there k) = omega (arith, more-crossings net c k)
 
-pub more-times : (x : ℕ) {w : Wire} {l m : List Wire} → More w l m → times x (nets m) ≡ one (eqb (w .net) x) + times x (nets l)
+pub more-times : (x : ℕ) {w : Wire} {l m : List Wire} → More w l m → times x (openNets m) ≡ one (eqb (w .net) x) + times x (openNets l)
 unfolding times
 more-times x here = refl
 more-times x (there k) = omega (arith, more-times x k)
 
-pub in-nets : {v : Wire} {ws : List Wire} → List·Memᴰ v ws → 0 < times (v .net) (nets ws)
+pub in-nets : {v : Wire} {ws : List Wire} → List·Memᴰ v ws → 0 < times (v .net) (openNets ws)
 unfolding times
 in-nets {v} (List·Memᴰ·head {x} e) = rw (ap (λ u. u .net) e) (omega (arith, one-same (x .net)))
 in-nets (List·Memᴰ·tail d) = omega (arith, in-nets d)
 
 -- no other wire has a wire's net
-pub other-net : {w v : Wire} {l m : List Wire} → More w l m → times (v .net) (nets m) ≤ 1 → List·Memᴰ v l → w .net ≡ v .net → ⊥
+pub other-net : {w v : Wire} {l m : List Wire} → More w l m → times (v .net) (openNets m) ≤ 1 → List·Memᴰ v l → w .net ≡ v .net → ⊥
 other-net {w} {v} k o d e = omega (arith, more-times (v .net) k, in-nets d, subst (λ n. one (eqb (w .net) n) ≡ 1) e (one-same (w .net)))
 
 pub one-le : (t : Bool) → one t ≤ 1
@@ -128,17 +129,17 @@ one-le true = omega arith
 one-le false = omega arith
 
 -- a net that no wire has
-none-of : {n k : ℕ} {ws : List Wire} → All (λ v. v .net ≢ n) ws → n ≡ k → times k (nets ws) ≡ 0
+none-of : {n k : ℕ} {ws : List Wire} → All (λ v. v .net ≢ n) ws → n ≡ k → times k (openNets ws) ≡ 0
 unfolding times
 none-of nil e = refl
 none-of {k = k} (cons {x} d a) e = omega (arith, one-other k (x .net) (λ q. d (q ∙ sym e)), none-of a e)
 
-pub marks-times : (net c : ℕ) (ws : List Wire) → marks net c ws ≤ times net (nets ws)
-unfolding marks times mark one pick
-marks-times net c [] = omega arith
-marks-times net c (w ∷ ws) = go (eqb (w .net) net) (leb (w .since) c) (marks-times net c ws)
+pub crossings-times : (net c : ℕ) (ws : List Wire) → crossings net c ws ≤ times net (openNets ws)
+unfolding crossings times crossing one pick
+crossings-times net c [] = omega arith
+crossings-times net c (w ∷ ws) = go (eqb (w .net) net) (leb (w .since) c) (crossings-times net c ws)
   where
-    go : (p q : Bool) → marks net c ws ≤ times net (nets ws) → pick (p && q) 1 0 + marks net c ws ≤ one p + times net (nets ws)
+    go : (p q : Bool) → crossings net c ws ≤ times net (openNets ws) → pick (p && q) 1 0 + crossings net c ws ≤ one p + times net (openNets ws)
     go true true h = omega arith
     go true false h = omega arith
     go false q h = omega arith
@@ -201,8 +202,8 @@ module _ (ku kl x y : ℕ) (later : x ≤ y) where
             (λ i. inl (more-still m i));
         distinct = another no-run (another List·Memᴰ·not-nil nothing);
         kept = λ v. among-more n (λ e. inr (ap (λ u. u .since) e)) (λ i. inl (more-still m i));
-        crossed = λ k c l. omega (arith, more-marks k c m, more-marks k c n, mark-both k y c w l, mark-later k c (bent true h y w) l);
-        behind = λ k c l. omega (arith, mark-past k y c w l);
+        crossed = λ k c l. omega (arith, more-crossings k c m, more-crossings k c n, crossing-both k y c w l, crossing-later k c (bent true h y w) l);
+        behind = λ k c l. omega (arith, crossing-past k y c w l);
         once = λ k o. omega (arith, more-times k m, more-times k n);
         good = λ g. all-more n (record { track = t; since = omega arith }) (still-good (all-less m g));
         street = λ g. let s = all-at g (more-in m) in (d, omega (arith, s .track .low, t .low), omega (arith, s .track .high, t .high));
@@ -211,7 +212,7 @@ module _ (ku kl x y : ℕ) (later : x ≤ y) where
   -- a stub at a wire that is there after the node, with nothing else drawn
   stub-event : {w : Wire} {others ws vs : List Wire} → More w others vs → All (Aside axis (w .height)) others
       → ((v : Wire) → List·Memᴰ v vs → List·Memᴰ v ws ⊎ ((v .since ≡ y) × ((z : Wire) → List·Memᴰ z ws → z .net ≡ v .net → ⊥)))
-      → ((m c : ℕ) → c < y → marks m c vs ≡ marks m c ws) → ((m : ℕ) → times m (nets ws) ≤ 1 → times m (nets vs) ≤ 1)
+      → ((m c : ℕ) → c < y → crossings m c vs ≡ crossings m c ws) → ((m : ℕ) → times m (openNets ws) ≤ 1 → times m (openNets vs) ≤ 1)
       → (All (Good ku kl x) ws → All (Good ku kl (suc y)) vs) → Event ku kl x y ws (wall y axis w ∷ []) vs
   unfolding wall over overs pick
   stub-event {w} {others} {ws} {vs} m a from even once good =
@@ -242,11 +243,11 @@ module _ (ku kl x y : ℕ) (later : x ≤ y) where
   begin-event {w} {ws} {vs} s t m a f =
       stub-event m a
       (λ v. among-more m (λ e. inr (ap (λ u. u .since) e ∙ s, λ z i q. all-at f i (q ∙ ap (λ u. u .net) e))) inl)
-      (λ k c l. omega (arith, more-marks k c m, mark-later k c w (omega arith)))
+      (λ k c l. omega (arith, more-crossings k c m, crossing-later k c w (omega arith)))
       (λ k o. fresh k o (eqb (w .net) k) refl)
       (λ g. all-more m (record { track = t; since = omega arith }) (still-good g))
     where
-      fresh : (k : ℕ) → times k (nets ws) ≤ 1 → (b : Bool) → eqb (w .net) k ≡ b → times k (nets vs) ≤ 1
+      fresh : (k : ℕ) → times k (openNets ws) ≤ 1 → (b : Bool) → eqb (w .net) k ≡ b → times k (openNets vs) ≤ 1
       fresh k o true e = omega (arith, more-times k m, one-le (eqb (w .net) k), none-of f (eqb-true (w .net) k e))
       fresh k o false e = omega (arith, more-times k m, one-other k (w .net) (eqb-false (w .net) k e))
 
@@ -270,16 +271,24 @@ module _ (ku kl x y : ℕ) (later : x ≤ y) where
         turned = λ o v i. inl (more-still m i);
         distinct = another (λ d. no-wall d) (another List·Memᴰ·not-nil nothing);
         kept = λ v i. inl (more-still m i);
-        crossed = λ k c l. omega (arith, more-marks k c m, mark-both k y c w l);
-        behind = λ k c l. omega (arith, mark-past k y c w l);
+        crossed = λ k c l. omega (arith, more-crossings k c m, crossing-both k y c w l);
+        behind = λ k c l. omega (arith, crossing-past k y c w l);
         once = λ k o. omega (arith, more-times k m);
         good = λ g. still-good (all-less m g);
         street = λ g. let t = all-at g (more-in m) .track in (λ z. t .off (sym z), omega (arith, t .low), omega (arith, t .high));
       }
 
-pub steps : {pitch ku kl i x : ℕ} {ws : List Wire} {row hs : List ℕ} {film : List Rec} → Trace pitch ku kl i x ws row hs film → Steps ku kl x ws film
-steps stop = done
-steps {pitch} {ku} {kl} (turn {i} {x} {y} l t d m n a r) = step (turn-event ku kl x y l t d m n a) (steps r)
-steps {pitch} {ku} {kl} (begin {i} {x} l s t m a f r) = step (begin-event ku kl x (pitch * i) l s t m a f) (steps r)
-steps {pitch} {ku} {kl} (meet {i} {x} l m a r) = step (meet-event ku kl x (pitch * i) l m a) (steps r)
-steps {pitch} {ku} {kl} (end {i} {x} l m a z r) = step (end-event ku kl x (pitch * i) l m a) (steps r)
+-- a trace's events come at column z or later, where the trace begins no sooner
+steps-from : {pitch ku kl i x : ℕ} {ws : List Wire} {pins : List (Option ℕ)} {hs : List ℕ} {film : List Rec} (z : ℕ) → z ≤ x
+    → Trace pitch ku kl i x ws pins hs film → Steps ku kl z ws film
+steps-from z h stop = done
+steps-from {pitch} {ku} {kl} z h (turn {y = y} l t d m n a r) = step (turn-event ku kl z y (omega arith) t d m n a) (steps-from (suc y) (omega arith) r)
+steps-from {pitch} {ku} {kl} z h (begin {i} l s t m a f r) =
+    step (begin-event ku kl z (pitch * i) (omega arith) s t m a f) (steps-from (suc (pitch * i)) (omega arith) r)
+steps-from {pitch} {ku} {kl} z h (meet {i} l m a r) = step (meet-event ku kl z (pitch * i) (omega arith) m a) (steps-from (suc (pitch * i)) (omega arith) r)
+steps-from {pitch} {ku} {kl} z h (end {i} l m a c r) = step (end-event ku kl z (pitch * i) (omega arith) m a) (steps-from (suc (pitch * i)) (omega arith) r)
+steps-from {pitch} z h (blank l r) = steps-from z (omega arith) r
+
+pub steps : {pitch ku kl i x : ℕ} {ws : List Wire} {pins : List (Option ℕ)} {hs : List ℕ} {film : List Rec} → Trace pitch ku kl i x ws pins hs film
+    → Steps ku kl x ws film
+steps {x = x} t = steps-from x (omega arith) t

@@ -13,7 +13,7 @@ use Rattle.rules.proofs.Open.{times}
 use Rattle.wires.specs.Levels.{Stop, heightIn, rises, sinks, count, above, below, turnAt}
 use Rattle.wires.proofs.Among.{All, nil, cons, all-at, all-map, here}
 use Rattle.wires.proofs.Gap.{climb-nets}
-use Rattle.wires.proofs.Steps.{nets, other-net}
+use Rattle.wires.proofs.Steps.{openNets, other-net}
 
 -- the heights to reach, by place and by net
 pub data Aims (t R : ℕ → ℕ) : ℕ → List ℕ → Type 0 where
@@ -46,7 +46,7 @@ later-once : (y : ℕ) (o : List ℕ) → Once (y ∷ o) → Once o
 unfolding times
 later-once y o h x = omega (arith, h x)
 
-other : (w : Wire) (ws : List Wire) {v : Wire} → Once (nets (w ∷ ws)) → List·Memᴰ v ws → eqb (w .net) (v .net) ≡ false
+other : (w : Wire) (ws : List Wire) {v : Wire} → Once (openNets (w ∷ ws)) → List·Memᴰ v ws → eqb (w .net) (v .net) ≡ false
 other w ws {v} h d = ne-eqb (w .net) (v .net) (other-net {w = w} here (h (v .net)) d)
 
 more-before : {b : Bool} {h m : ℕ} {v u : Wire} {film : List Rec} {ws : List Wire} (p : List Rec) → Turned b h m v film ws → Turned b h m v (p ++ film) (u ∷ ws)
@@ -80,30 +80,30 @@ picked false c x e = rw (← e) (omega arith)
 module _ (t R : ℕ → ℕ) (f : ℕ → Bool) where
   -- ---- up-movers: f says which nets rise
 
-  climb-column : (q x : ℕ) (ws : List Wire) → Aims t R q (nets ws) → All (λ w. ltb (w .height) (R (w .net)) ≡ f (w .net)) ws
-      → climb t q x ws .column ≡ x + count f (nets ws)
+  climb-column : (q x : ℕ) (ws : List Wire) → Aims t R q (openNets ws) → All (λ w. ltb (w .height) (R (w .net)) ≡ f (w .net)) ws
+      → climb t q x ws .column ≡ x + count f (openNets ws)
   unfolding climb count pick
   climb-column q x [] a g = omega arith
   climb-column q x (w ∷ ws) (aim e a) (cons r g) =
       climb-column (suc q) (pick (ltb (w .height) (t q)) (suc x) x) ws a g ∙ omega (arith, picked (ltb (w .height) (t q)) (f (w .net)) x (ap (ltb (w .height)) e ∙ r))
 
-  climb-turns : (q x : ℕ) (ws : List Wire) → Aims t R q (nets ws) → All (λ w. ltb (w .height) (R (w .net)) ≡ f (w .net)) ws → Once (nets ws)
-      → (v : Wire) → List·Memᴰ v ws → Turned (f (v .net)) (R (v .net)) (x + above f (v .net) (nets ws)) v (climb t q x ws .film) (climb t q x ws .wires)
+  climb-turns : (q x : ℕ) (ws : List Wire) → Aims t R q (openNets ws) → All (λ w. ltb (w .height) (R (w .net)) ≡ f (w .net)) ws → Once (openNets ws)
+      → (v : Wire) → List·Memᴰ v ws → Turned (f (v .net)) (R (v .net)) (x + above f (v .net) (openNets ws)) v (climb t q x ws .film) (climb t q x ws .wires)
   unfolding climb
   climb-turns q x [] a g o v d = absurd (List·Memᴰ·not-nil d)
   climb-turns q x (w ∷ ws) (aim e a) (cons r g) o v (List·Memᴰ·head i) =
       let n : w .net ≡ v .net = ap (λ u. u .net) (sym i) in
-      same-turn (ap (ltb (w .height)) e ∙ r ∙ ap f n) (e ∙ ap R n) (omega (arith, above-here f (w .net) (v .net) (nets ws) n)) i
+      same-turn (ap (ltb (w .height)) e ∙ r ∙ ap f n) (e ∙ ap R n) (omega (arith, above-here f (w .net) (v .net) (openNets ws) n)) i
       (here-first (ltb (w .height) (t q)) (t q) x w (climb t (suc q) (pick (ltb (w .height) (t q)) (suc x) x) ws .film)
       (climb t (suc q) (pick (ltb (w .height) (t q)) (suc x) x) ws .wires))
   climb-turns q x (w ∷ ws) (aim e a) (cons r g) o v (List·Memᴰ·tail d) =
       same-turn refl refl
-      (omega (arith, picked (ltb (w .height) (t q)) (f (w .net)) x (ap (ltb (w .height)) e ∙ r), above-next f (w .net) (v .net) (nets ws) (other w ws o d))) refl
+      (omega (arith, picked (ltb (w .height) (t q)) (f (w .net)) x (ap (ltb (w .height)) e ∙ r), above-next f (w .net) (v .net) (openNets ws) (other w ws o d))) refl
       (more-before (drawn (ltb (w .height) (t q)) (t q) x w)
-      (climb-turns (suc q) (pick (ltb (w .height) (t q)) (suc x) x) ws a g (later-once (w .net) (nets ws) o) v d))
+      (climb-turns (suc q) (pick (ltb (w .height) (t q)) (suc x) x) ws a g (later-once (w .net) (openNets ws) o) v d))
 
   -- whatever holds of wires, moved or not, at whatever column
-  climb-all : (C : Wire → Type 0) (q x : ℕ) (ws : List Wire) → Aims t R q (nets ws)
+  climb-all : (C : Wire → Type 0) (q x : ℕ) (ws : List Wire) → Aims t R q (openNets ws)
       → All (λ w. (m : ℕ) → C (bent (ltb (w .height) (R (w .net))) (R (w .net)) m w)) ws → All C (climb t q x ws .wires)
   unfolding climb
   climb-all C q x [] a c = nil
@@ -112,26 +112,26 @@ module _ (t R : ℕ → ℕ) (f : ℕ → Bool) where
 
   -- ---- down-movers: f says which nets sink
 
-  sink-column : (q x : ℕ) (ws : List Wire) → Aims t R q (nets ws) → All (λ w. ltb (R (w .net)) (w .height) ≡ f (w .net)) ws
-      → sink t q x ws .column ≡ x + count f (nets ws)
+  sink-column : (q x : ℕ) (ws : List Wire) → Aims t R q (openNets ws) → All (λ w. ltb (R (w .net)) (w .height) ≡ f (w .net)) ws
+      → sink t q x ws .column ≡ x + count f (openNets ws)
   unfolding sink count
   sink-column q x [] a g = omega arith
   sink-column q x (w ∷ ws) (aim e a) (cons r g) =
       picked (ltb (t q) (w .height)) (f (w .net)) (sink t (suc q) x ws .column) (ap (λ k. ltb k (w .height)) e ∙ r)
       ∙ omega (arith, sink-column (suc q) x ws a g)
 
-  sink-turns : (q x : ℕ) (ws : List Wire) → Aims t R q (nets ws) → All (λ w. ltb (R (w .net)) (w .height) ≡ f (w .net)) ws → Once (nets ws)
-      → (v : Wire) → List·Memᴰ v ws → Turned (f (v .net)) (R (v .net)) (x + below f (v .net) (nets ws)) v (sink t q x ws .film) (sink t q x ws .wires)
+  sink-turns : (q x : ℕ) (ws : List Wire) → Aims t R q (openNets ws) → All (λ w. ltb (R (w .net)) (w .height) ≡ f (w .net)) ws → Once (openNets ws)
+      → (v : Wire) → List·Memᴰ v ws → Turned (f (v .net)) (R (v .net)) (x + below f (v .net) (openNets ws)) v (sink t q x ws .film) (sink t q x ws .wires)
   unfolding sink
   sink-turns q x [] a g o v d = absurd (List·Memᴰ·not-nil d)
   sink-turns q x (w ∷ ws) (aim e a) (cons r g) o v (List·Memᴰ·head i) =
       let n : w .net ≡ v .net = ap (λ u. u .net) (sym i) in
       same-turn (ap (λ k. ltb k (w .height)) e ∙ r ∙ ap f n) (e ∙ ap R n)
-      (omega (arith, below-here f (w .net) (v .net) (nets ws) n, sink-column (suc q) x ws a g)) i
+      (omega (arith, below-here f (w .net) (v .net) (openNets ws) n, sink-column (suc q) x ws a g)) i
       (here-last (ltb (t q) (w .height)) (t q) (sink t (suc q) x ws .column) w (sink t (suc q) x ws .film) (sink t (suc q) x ws .wires))
   sink-turns q x (w ∷ ws) (aim e a) (cons r g) o v (List·Memᴰ·tail d) =
-      same-turn refl refl (omega (arith, below-next f (w .net) (v .net) (nets ws) (other w ws o d))) refl
-      (more-after (drawn (ltb (t q) (w .height)) (t q) (sink t (suc q) x ws .column) w) (sink-turns (suc q) x ws a g (later-once (w .net) (nets ws) o) v d))
+      same-turn refl refl (omega (arith, below-next f (w .net) (v .net) (openNets ws) (other w ws o d))) refl
+      (more-after (drawn (ltb (t q) (w .height)) (t q) (sink t (suc q) x ws .column) w) (sink-turns (suc q) x ws a g (later-once (w .net) (openNets ws) o) v d))
 
 -- ---- the gap from one node to the next
 
@@ -141,8 +141,8 @@ pub record Passed (s u : Stop) (x : ℕ) (v : Wire) (film : List Rec) (wires : L
       → List·Memᴰ (ran (x + turnAt s u (v .net)) v) film × List·Memᴰ (bent true (heightIn u (v .net)) (x + turnAt s u (v .net)) v) wires
   pub stayed : v .height ≡ heightIn u (v .net) → List·Memᴰ v wires
 
-module _ (tg : ℕ → ℕ) (s u : Stop) (x : ℕ) (ws : List Wire) (aims : Aims tg (heightIn u) 0 (nets ws)) (same : nets ws ≡ s .onward)
-    (heights : All (λ w. w .height ≡ heightIn s (w .net)) ws) (once : Once (nets ws)) where
+module _ (tg : ℕ → ℕ) (s u : Stop) (x : ℕ) (ws : List Wire) (aims : Aims tg (heightIn u) 0 (openNets ws)) (same : openNets ws ≡ s .onward)
+    (heights : All (λ w. w .height ≡ heightIn s (w .net)) ws) (once : Once (openNets ws)) where
   abbrev R : ℕ → ℕ
   R = heightIn u
 
@@ -161,11 +161,11 @@ module _ (tg : ℕ → ℕ) (s u : Stop) (x : ℕ) (ws : List Wire) (aims : Aims
           le-ltb (R (w .net)) (R (w .net)) (omega arith) ∙ sym (le-ltb (R (w .net)) (heightIn s (w .net)) (omega arith))
       go w e m false q = ap (ltb (R (w .net))) e
 
-  turn-up : (n : ℕ) → rises s u n ≡ true → suc x + above (rises s u) n (nets ws) ≡ x + turnAt s u n
+  turn-up : (n : ℕ) → rises s u n ≡ true → suc x + above (rises s u) n (openNets ws) ≡ x + turnAt s u n
   unfolding turnAt pick
   turn-up n e = rw (e, same) (omega arith)
 
-  turn-down : (n : ℕ) → rises s u n ≡ false → suc x + count (rises s u) (nets ws) + below (sinks s u) n (nets ws) ≡ x + turnAt s u n
+  turn-down : (n : ℕ) → rises s u n ≡ false → suc x + count (rises s u) (openNets ws) + below (sinks s u) n (openNets ws) ≡ x + turnAt s u n
   unfolding turnAt pick
   turn-down n e = rw (e, same) (omega arith)
 
@@ -186,20 +186,20 @@ module _ (tg : ℕ → ℕ) (s u : Stop) (x : ℕ) (ws : List Wire) (aims : Aims
       y : ℕ
       y = climb tg 0 (suc x) ws .column
 
-      n≡ : nets w₁ ≡ nets ws
+      n≡ : openNets w₁ ≡ openNets ws
       n≡ = climb-nets tg 0 (suc x) ws
 
       then-sink : (w : Wire) → List·Memᴰ w w₁
-          → Turned (sinks s u (w .net)) (R (w .net)) (y + below (sinks s u) (w .net) (nets w₁)) w (sink tg 0 y w₁ .film) (sink tg 0 y w₁ .wires)
+          → Turned (sinks s u (w .net)) (R (w .net)) (y + below (sinks s u) (w .net) (openNets w₁)) w (sink tg 0 y w₁ .film) (sink tg 0 y w₁ .wires)
       then-sink = sink-turns tg R (sinks s u) 0 y w₁ (subst (Aims tg R 0) (sym n≡) aims) sunk (subst Once (sym n≡) once)
 
       height : v .height ≡ heightIn s n
       height = all-at heights d
 
-      down : y + below (sinks s u) n (nets w₁) ≡ suc x + count (rises s u) (nets ws) + below (sinks s u) n (nets ws)
+      down : y + below (sinks s u) n (openNets w₁) ≡ suc x + count (rises s u) (openNets ws) + below (sinks s u) n (openNets ws)
       down = ap₂ (λ a o. a + below (sinks s u) n o) (climb-column tg R (rises s u) 0 (suc x) ws aims risen) n≡
 
-      go : (a : Bool) → rises s u n ≡ a → (b : Bool) → sinks s u n ≡ b → Turned (rises s u n) (R n) (suc x + above (rises s u) n (nets ws)) v f₁ w₁
+      go : (a : Bool) → rises s u n ≡ a → (b : Bool) → sinks s u n ≡ b → Turned (rises s u n) (R n) (suc x + above (rises s u) n (openNets ws)) v f₁ w₁
           → Passed s u x v (f₁ ++ sink tg 0 y w₁ .film) (sink tg 0 y w₁ .wires)
       go true p true q c = absurd (omega (arith, ltb-true (heightIn s n) (R n) p, ltb-true (R n) (heightIn s n) q))
       go true p false q c =

@@ -3,48 +3,49 @@ use mathlib.Core.Path.{_≡_, refl, sym, ap, _∙_, subst}
 use mathlib.Core.Bool.{true}
 use mathlib.Core.List.{List, _∷_, _++_, List·Memᴰ, List·Memᴰ·head, List·Memᴰ·tail, List·Memᴰ·not-nil, List·Memᴰ·append-cases, Memᴰ·append-left, Memᴰ·append-right, Memᴰ·cast}
 use mathlib.Core.Logic.{_≢_, _⊎_, inl, inr}
+use mathlib.Core.Option.{Option, none, some}
 use Prim.Native.Nat.{ℕ, suc, _+_, _-_, _*_, _≤_, _<_, min, max}
 use native.Mathlib.Omega.{arith}
-use lib.ListN.{length, getD}
+use lib.ListN.{getD}
 use Rattle.rules.specs.Film.{Rec, across, upright, Wire, axis, ran, wall, bent}
 use Rattle.rules.proofs.Open.{times}
 use Rattle.wires.specs.Levels.{Over, Distinct, nothing, another}
 use Rattle.wires.proofs.Among.{all-at, here, more-in, lt-or-ge}
-use Rattle.wires.proofs.Trace.{Trace, stop, turn, begin, meet, end}
-use Rattle.wires.proofs.Steps.{nets, other-net, not-wall, Runs, Part, run, vertical, Event, Steps, done, step, turn-event, begin-event, meet-event, end-event}
+use Rattle.wires.proofs.Trace.{Trace, stop, turn, begin, meet, end, blank}
+use Rattle.wires.proofs.Steps.{openNets, other-net, not-wall, Runs, Part, run, vertical, Event, Steps, done, step, turn-event, begin-event, meet-event, end-event}
 use Rattle.wires.proofs.Rules.{Ahead, run-ahead, wall-ahead, ahead}
-use Rattle.wires.proofs.Joins.{Fine, fine}
+use Rattle.wires.proofs.Joins.{Fine, fine, fine-later}
 use Rattle.wires.proofs.Cover.{over-in, over-open, over-wire}
 
 -- ---- what a vertical is
 
--- in a film from node i on, with these labels and heights of own wires
-pub data Upright (pitch i : ℕ) (row hs : List ℕ) (film : List Rec) (n l c h : ℕ) : Type 0 where
-  a-stub : (j : ℕ) → j < length row → n ≡ getD row j 0 → c ≡ pitch * (i + j) → l ≡ min axis (getD hs j axis) → h ≡ max axis (getD hs j axis)
-      → Upright pitch i row hs film n l c h
-  a-move : (p a b : ℕ) → suc p ≡ c → Over film n p a → Over film n c b → a ≢ b → l ≡ min a b → h ≡ max a b → Upright pitch i row hs film n l c h
+-- in a film from node i on, with these nets at the pins and heights of own wires
+pub data Upright (pitch i : ℕ) (pins : List (Option ℕ)) (hs : List ℕ) (film : List Rec) (n l c h : ℕ) : Type 0 where
+  a-stub : (j : ℕ) → getD pins j none ≡ some n → c ≡ pitch * (i + j) → l ≡ min axis (getD hs j axis) → h ≡ max axis (getD hs j axis)
+      → Upright pitch i pins hs film n l c h
+  a-move : (p a b : ℕ) → suc p ≡ c → Over film n p a → Over film n c b → a ≢ b → l ≡ min a b → h ≡ max a b → Upright pitch i pins hs film n l c h
 
-later-node : {pitch i x k n l c h : ℕ} {row hs : List ℕ} {film more : List Rec} → ((r : Rec) → List·Memᴰ r film → List·Memᴰ r more)
-    → Upright pitch (suc i) row hs film n l c h → Upright pitch i (x ∷ row) (k ∷ hs) more n l c h
-later-node {pitch} f (a-stub j q e g u v) = a-stub (suc j) (omega arith) e (g ∙ ap (λ m. pitch * m) (omega arith)) u v
+later-node : {pitch i k n l c h : ℕ} {pin : Option ℕ} {pins : List (Option ℕ)} {hs : List ℕ} {film more : List Rec} → ((r : Rec) → List·Memᴰ r film → List·Memᴰ r more)
+    → Upright pitch (suc i) pins hs film n l c h → Upright pitch i (pin ∷ pins) (k ∷ hs) more n l c h
+later-node {pitch} f (a-stub j e g u v) = a-stub (suc j) e (g ∙ ap (λ m. pitch * m) (omega arith)) u v
 later-node f (a-move p a b e o o′ d u v) = a-move p a b e (over-in f o) (over-in f o′) d u v
 
-later-move : {pitch i n l c h : ℕ} {row hs : List ℕ} {film more : List Rec} → ((r : Rec) → List·Memᴰ r film → List·Memᴰ r more)
-    → Upright pitch i row hs film n l c h → Upright pitch i row hs more n l c h
-later-move f (a-stub j q e g u v) = a-stub j q e g u v
+later-move : {pitch i n l c h : ℕ} {pins : List (Option ℕ)} {hs : List ℕ} {film more : List Rec} → ((r : Rec) → List·Memᴰ r film → List·Memᴰ r more)
+    → Upright pitch i pins hs film n l c h → Upright pitch i pins hs more n l c h
+later-move f (a-stub j e g u v) = a-stub j e g u v
 later-move f (a-move p a b e o o′ d u v) = a-move p a b e (over-in f o) (over-in f o′) d u v
 
 -- the stub of node i
-stub-here : {n l c h : ℕ} (pitch i : ℕ) (w : Wire) (row hs : List ℕ) (film : List Rec) → upright n l c h ≡ wall (pitch * i) axis w
-    → Upright pitch i (w .net ∷ row) (w .height ∷ hs) film n l c h
+stub-here : {n l c h : ℕ} (pitch i : ℕ) (w : Wire) (pins : List (Option ℕ)) (hs : List ℕ) (film : List Rec) → upright n l c h ≡ wall (pitch * i) axis w
+    → Upright pitch i (some (w .net) ∷ pins) (w .height ∷ hs) film n l c h
 unfolding wall
-stub-here {n} {l} {c} {h} pitch i w row hs film e =
+stub-here {n} {l} {c} {h} pitch i w pins hs film e =
     let g : c ≡ pitch * i = cc in
-    a-stub 0 (omega arith) (cc) (g ∙ ap (λ m. pitch * m) (omega arith)) (cc) (cc)
+    a-stub 0 (cc) (g ∙ ap (λ m. pitch * m) (omega arith)) (cc) (cc)
 
 module _ {pitch ku kl : ℕ} where
-  pub uprights : {i x : ℕ} {ws : List Wire} {row hs : List ℕ} {film : List Rec} → Trace pitch ku kl i x ws row hs film → Fine ku kl x ws
-      → (n l c h : ℕ) → List·Memᴰ (upright n l c h) film → Upright pitch i row hs film n l c h
+  pub uprights : {i x : ℕ} {ws : List Wire} {pins : List (Option ℕ)} {hs : List ℕ} {film : List Rec} → Trace pitch ku kl i x ws pins hs film → Fine ku kl x ws
+      → (n l c h : ℕ) → List·Memᴰ (upright n l c h) film → Upright pitch i pins hs film n l c h
   unfolding ran wall bent
   uprights stop f n l c h d = absurd (List·Memᴰ·not-nil d)
   uprights (turn a t k m m′ cl r) f n l c h (List·Memᴰ·head e) = absurd (not-wall (sym e))
@@ -62,21 +63,22 @@ module _ {pitch ku kl : ℕ} where
       (λ z. k (sym z)) (omega arith) (omega arith)
   uprights (turn {x = x} {y} a t k m m′ cl r) f n l c h (List·Memᴰ·tail (List·Memᴰ·tail d)) =
       later-move (λ r i. List·Memᴰ·tail (List·Memᴰ·tail i)) (uprights r (fine (turn-event ku kl x y a t k m m′ cl) f) n l c h d)
-  uprights (begin {i} {w = w} {row = row} {hs} {film} a s t m cl u r) f n l c h (List·Memᴰ·head e) = stub-here pitch i w row hs (wall (pitch * i) axis w ∷ film) e
+  uprights (begin {i} {w = w} {pins = pins} {hs} {film} a s t m cl u r) f n l c h (List·Memᴰ·head e) = stub-here pitch i w pins hs (wall (pitch * i) axis w ∷ film) e
   uprights (begin {i} {x} a s t m cl u r) f n l c h (List·Memᴰ·tail d) =
       later-node (λ r i. List·Memᴰ·tail i) (uprights r (fine (begin-event ku kl x (pitch * i) a s t m cl u) f) n l c h d)
-  uprights (meet {i} {w = w} {row = row} {hs} {film} a m cl r) f n l c h (List·Memᴰ·head e) = stub-here pitch i w row hs (wall (pitch * i) axis w ∷ film) e
+  uprights (meet {i} {w = w} {pins = pins} {hs} {film} a m cl r) f n l c h (List·Memᴰ·head e) = stub-here pitch i w pins hs (wall (pitch * i) axis w ∷ film) e
   uprights (meet {i} {x} a m cl r) f n l c h (List·Memᴰ·tail d) =
       later-node (λ r i. List·Memᴰ·tail i) (uprights r (fine (meet-event ku kl x (pitch * i) a m cl) f) n l c h d)
-  uprights (end {i} {w = w} {row = row} {hs} {film} a m cl z r) f n l c h (List·Memᴰ·head e) = stub-here pitch i w row hs (wall (pitch * i) axis w ∷ ran (pitch * i) w ∷ film) e
+  uprights (end {i} {w = w} {pins = pins} {hs} {film} a m cl z r) f n l c h (List·Memᴰ·head e) = stub-here pitch i w pins hs (wall (pitch * i) axis w ∷ ran (pitch * i) w ∷ film) e
   uprights (end a m cl z r) f n l c h (List·Memᴰ·tail (List·Memᴰ·head e)) = absurd (not-wall (sym e))
   uprights (end {i} {x} a m cl z r) f n l c h (List·Memᴰ·tail (List·Memᴰ·tail d)) =
       later-node (λ r i. List·Memᴰ·tail (List·Memᴰ·tail i)) (uprights r (fine (end-event ku kl x (pitch * i) a m cl) f) n l c h d)
+  uprights (blank {i} {x} a r) f n l c h d = later-node (λ r i. i) (uprights r (fine-later (omega arith) f) n l c h d)
 
 -- ---- each change of height has its vertical
 
 -- two wires of one net are one
-one-wire : {v w : Wire} (ws : List Wire) → ((k : ℕ) → times k (nets ws) ≤ 1) → List·Memᴰ v ws → List·Memᴰ w ws → v .net ≡ w .net → v ≡ w
+one-wire : {v w : Wire} (ws : List Wire) → ((k : ℕ) → times k (openNets ws) ≤ 1) → List·Memᴰ v ws → List·Memᴰ w ws → v .net ≡ w .net → v ≡ w
 unfolding times
 one-wire (u ∷ ws) o (List·Memᴰ·head e) (List·Memᴰ·head f) q = e ∙ sym f
 one-wire {v} {w} (u ∷ ws) o (List·Memᴰ·head e) (List·Memᴰ·tail d) q = absurd (other-net {w = u} here (o (w .net)) d (ap (λ z. z .net) (sym e) ∙ q))
@@ -113,7 +115,7 @@ module _ {ku kl x y : ℕ} {ws vs : List Wire} {recs film : List Rec} (e : Event
       go (inl i) = absurd (omega (arith, part (all-at (e .parts) i), o .ends))
       go (inr i) = i
 
-pub turns : {ku kl x : ℕ} {ws : List Wire} {film : List Rec} → Steps ku kl x ws film → ((k : ℕ) → times k (nets ws) ≤ 1)
+pub turns : {ku kl x : ℕ} {ws : List Wire} {film : List Rec} → Steps ku kl x ws film → ((k : ℕ) → times k (openNets ws) ≤ 1)
     → (n c a b : ℕ) → Over film n c a → Over film n (suc c) b → a ≢ b → List·Memᴰ (upright n (min b a) (suc c) (max b a)) film
 turns done o n c a b p q d = absurd (List·Memᴰ·not-nil (p .among))
 turns (step {y = y} {ws} {vs} {recs} {film} e s) o n c a b p q d =

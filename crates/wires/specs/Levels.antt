@@ -7,15 +7,15 @@ use mathlib.Core.List.{List, [], _∷_, List·Memᴰ}
 use mathlib.Core.Logic.{_≢_, _↔_}
 use mathlib.Core.Option.{Option, none, some}
 use Prim.Native.Nat.{ℕ, suc, _+_, _-_, _*_, _≤_, _<_, min, max}
-use lib.ListN.{length, getD}
+use lib.ListN.{getD}
 use lib.Dec.{leb, ltb, eqb}
 use Rattle.rules.specs.Basic.{pick, put, keep}
-use Rattle.rules.specs.Row.{before, has, Kind, B, M, E, node}
+use Rattle.rules.specs.Row.{before, has, Kind, B, M, E, N, node}
 use Rattle.rules.specs.Street.{next}
-use Rattle.rules.specs.Sheet.{kindIn, Entry, entry, begun, labels}
-use Rattle.rules.specs.Film.{Rec, across, upright, axis, upper, heightAt}
+use Rattle.rules.specs.Sheet.{kindIn, Entry, entry, begun, nets}
+use Rattle.rules.specs.Film.{Rec, across, upright, axis, upperAt, heightAt}
 
--- a node: the wires laid in the upper street, the nets open there from top to bottom, its own among them, and those open after it
+-- a node: the wires laid in the upper street, the nets open there from top to bottom, its own among them if it has one, and those open after it
 pub record Stop : Type 0 where
   pub laid : ℕ
   pub there : List ℕ
@@ -26,14 +26,15 @@ unfoldable pub present : Kind → (a n : ℕ) → List ℕ → List ℕ
 present B a n o = put a n o
 present M a n o = o
 present E a n o = o
+present N a n o = o
 
--- the nodes of entries, from the order o of labels on, with n nets begun
+-- the nodes of entries, from the order o of nets on, with n nets begun
 unfoldable pub stops : (ku n : ℕ) → List ℕ → List Entry → List Stop
 stops ku n o [] = []
 stops ku n o (entry f a ∷ es) =
     let k = kindIn f in
     let o′ = next (node k n) o (suc a) in
-    record { laid = upper ku (suc a); there = present k a n o; onward = o′ } ∷ stops ku (begun k n) o′ es
+    record { laid = upperAt k ku a; there = present k a n o; onward = o′ } ∷ stops ku (begun k n) o′ es
 
 -- the height of net x at a node
 unfoldable pub heightIn : Stop → ℕ → ℕ
@@ -82,10 +83,10 @@ pub record Longest (level : ℕ → Option ℕ) (h l r : ℕ) : Type 0 where
   pub begins : (c : ℕ) → suc c ≡ l → level c ≢ some h
   pub ends : level r ≢ some h
 
--- the heights of the nodes' own wires there
+-- the heights of the nodes' own wires there; a blank has none, and what stands for it is never read
 unfoldable pub own : ℕ → List Entry → List ℕ
 own ku [] = []
-own ku (entry f a ∷ es) = heightAt (upper ku (suc a)) (suc a) ∷ own ku es
+own ku (entry f a ∷ es) = heightAt (upperAt (kindIn f) ku a) (suc a) ∷ own ku es
 
 -- the height of net x over the stretch after column c, in a film of entries
 abbrev pub level : (pitch ku : ℕ) → List Entry → (x c : ℕ) → Option ℕ
@@ -99,12 +100,12 @@ pub record Over (film : List Rec) (x c h : ℕ) : Type 0 where
   pub begins : left ≤ c
   pub ends : c < right
 
--- the records that the rules ask for: the longest runs, a vertical at each change of height, and a stub at each pin
+-- the records that the rules ask for: the longest runs, a vertical at each change of height, and a stub at each pin that has a net
 pub data Ruled (pitch ku : ℕ) (es : List Entry) : Rec → Type 0 where
   run : {x h l r : ℕ} → Longest (level pitch ku es x) h l r → Ruled pitch ku es (across x h l r)
   move : {x c a b l h : ℕ} → level pitch ku es x c ≡ some a → level pitch ku es x (suc c) ≡ some b → a ≢ b → l ≡ min a b → h ≡ max a b
       → Ruled pitch ku es (upright x l (suc c) h)
-  stub : {x l c h : ℕ} (i : ℕ) → i < length es → x ≡ getD (labels 0 [] es) i 0 → c ≡ pitch * i
+  stub : {x l c h : ℕ} (i : ℕ) → getD (nets 0 [] es) i none ≡ some x → c ≡ pitch * i
       → l ≡ min axis (getD (own ku es) i axis) → h ≡ max axis (getD (own ku es) i axis) → Ruled pitch ku es (upright x l c h)
 
 -- no record stands twice

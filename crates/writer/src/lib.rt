@@ -74,7 +74,7 @@ fn four(kinds: &[u8], places: &[u8], i: usize) -> u32
     upper * 4096 + lower
 }
 
-// The six bits of a node: its kind field in 2, the nets above its own in 4.
+// The six bits of a node: its kind field in 2, the nets above it in 4.
 fn entry(kinds: &[u8], places: &[u8], i: usize) -> u32
     requires { ⌜ Fields (now kinds) (now places) ⌝ }
     requires { ⌜ i < length (now kinds) ⌝ }

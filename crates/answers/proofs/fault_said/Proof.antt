@@ -33,26 +33,26 @@ tell-requires-4 c κs = search needs
 enum-known-e-2 : tie.Need-enum-known-e-2
 enum-known-e-2 c = search needs
 
+limit-number-requires : tie.Need-limit-number-requires
+limit-number-requires c κs = search needs
+
 tell-requires-5 : tie.Need-tell-requires-5
 tell-requires-5 c κs = search needs
 
 enum-known-e-3 : tie.Need-enum-known-e-3
 enum-known-e-3 c = search needs
 
-limit-number-requires : tie.Need-limit-number-requires
-limit-number-requires c κs = search needs
-
 tell-requires-6 : tie.Need-tell-requires-6
 tell-requires-6 c κs = search needs
 
-enum-known-e-4 : tie.Need-enum-known-e-4
-enum-known-e-4 c = search needs
+enum-told-4 : tie.Need-enum-told-4
+enum-told-4 c = search needs
 
 tell-requires-7 : tie.Need-tell-requires-7
 tell-requires-7 c κs = search needs
 
-enum-told-4 : tie.Need-enum-told-4
-enum-told-4 c = search needs
+enum-told-5 : tie.Need-enum-told-5
+enum-told-5 c = search needs
 
 tell-requires-8 : tie.Need-tell-requires-8
 tell-requires-8 c κs = search needs
@@ -75,22 +75,22 @@ returns-4 c = c .tell4 .ensures ∙ sym (ap faultSaid (c .before .before .e .giv
 
 returns-5 : tie.Need-returns-5
 unfolding faultSaid
-returns-5 c = c .tell5 .ensures ∙ sym (ap faultSaid (c .before .before .e2 .given .1))
+returns-5 c =
+    c .tell5 .ensures
+    ∙ (ap (λ (k : ℕ). says k (c .before .before .before .e2 .given .0 .1 .0)) (c .before .limit-number .ensures)
+    ∙ sym (ap faultSaid (c .before .before .before .e2 .given .1)))
 
 returns-6 : tie.Need-returns-6
 unfolding faultSaid
-returns-6 c =
-    c .tell6 .ensures
-    ∙ (ap (λ (k : ℕ). says k (c .before .before .before .e3 .given .0 .1 .0)) (c .before .limit-number .ensures)
-    ∙ sym (ap faultSaid (c .before .before .before .e3 .given .1)))
+returns-6 c = c .tell6 .ensures ∙ sym (ap faultSaid (c .before .before .e3 .given .1))
 
 returns-7 : tie.Need-returns-7
 unfolding faultSaid
-returns-7 c = c .tell7 .ensures ∙ sym (ap faultSaid (c .before .before .e4 .given .1))
+returns-7 c = c .tell7 .ensures ∙ sym (ap faultSaid (c .before .enum-told4 .given .1))
 
 returns-8 : tie.Need-returns-8
 unfolding faultSaid
-returns-8 c = c .tell8 .ensures ∙ sym (ap faultSaid (c .before .enum-told4 .given .1))
+returns-8 c = c .tell8 .ensures ∙ sym (ap faultSaid (c .before .enum-told5 .given .1))
 
 pub fault-said-spec : {M : Type 1} → statement M
 fault-said-spec =
@@ -105,13 +105,13 @@ fault-said-spec =
     enum-known-e
     tell-requires-4
     enum-known-e-2
+    limit-number-requires
     tell-requires-5
     enum-known-e-3
-    limit-number-requires
     tell-requires-6
-    enum-known-e-4
-    tell-requires-7
     enum-told-4
+    tell-requires-7
+    enum-told-5
     tell-requires-8
     returns
     returns-2

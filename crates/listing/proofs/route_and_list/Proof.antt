@@ -1,9 +1,7 @@
 -- `listing::route_and_list` meets its contract: what the router gives can be listed, and its text is the row's. Assumes nothing.
 use Prim.Native.Nat.{ℕ}
-use native.Mathlib.Omega.{arith}
 use borrow.Author.Needs.{needs}
 use lib.ListN.{length-replicate}
-use Rattle.rules.proofs.Fields.{below-from}
 use Rattle.listing.proofs.RoutedText.{listable, routed-listing}
 use Rattle.listing.proofs.route_and_list.Statement.{statement}
 use Rattle.listing.proofs.route_and_list.Tie as tie
@@ -21,19 +19,14 @@ slice-aggregate-list-answer : tie.Need-slice-aggregate-list-answer
 slice-aggregate-list-answer c = search needs
 
 list-answer-requires : tie.Need-list-answer-requires
-list-answer-requires c κs =
-    let g = c .before .before .before .before .before .before .before .before .before .args in
-    let bytes = below-from 256 (g .row .now) (λ i h. omega (arith, c .before .before .before .before .before .before .before .before .shared-slice-known .given i)) in
-    (listable bytes (c .before .before .before .before .route .ensures), search needs)
+list-answer-requires c κs = (listable (c .before .before .before .before .route .ensures), search needs)
 
 same-length : tie.Need-same-length
 same-length c = search needs
 
 returns : tie.Need-returns
 returns c =
-    let g = c .before .before .before .before .before .before .before .before .before .before .before .before .args in
-    let bytes = below-from 256 (g .row .now) (λ i h. omega (arith, c .before .before .before .before .before .before .before .before .before .before .before .shared-slice-known .given i)) in
-    routed-listing bytes (c .before .before .before .before .before .before .before .route .ensures) (length-replicate {A = ℕ} 46080 0) (length-replicate {A = ℕ} 386 0) (c .before .before .list-answer .ensures)
+    routed-listing (c .before .before .before .before .before .before .before .route .ensures) (length-replicate {A = ℕ} 46080 0) (length-replicate {A = ℕ} 386 0) (c .before .before .list-answer .ensures)
 
 pub route-and-list-spec : {M : Type 1} → statement M
 route-and-list-spec =

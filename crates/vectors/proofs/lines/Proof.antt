@@ -6,10 +6,10 @@ use Rattle.vectors.proofs.lines.Statement.{statement}
 use Rattle.vectors.proofs.lines.Tie as tie
 
 abbrev Inv-loop : tie.InvT-loop
-Inv-loop asked path text counts₀ wrong₀ line₀ at₀ counts wrong line at = Unit {0}
+Inv-loop asked path text counts₀ wrong₀ blanks₀ line₀ at₀ counts wrong blanks line at = Unit {0}
 
 abbrev μ-loop : tie.MeasureT-loop
-μ-loop asked path text counts₀ wrong₀ line₀ at₀ counts wrong line at = length text - at
+μ-loop asked path text counts₀ wrong₀ blanks₀ line₀ at₀ counts wrong blanks line at = length text - at
 
 loop-holds : tie.Need-loop-holds Inv-loop μ-loop
 loop-holds c = search needs
@@ -34,6 +34,18 @@ wrapping-add-u64-requires c κs = search needs
 
 noted-requires : tie.Need-noted-requires Inv-loop μ-loop
 noted-requires c κs = search needs
+
+sub-blanks-after : tie.Need-sub-blanks-after Inv-loop μ-loop
+sub-blanks-after c = search needs
+
+part-blanks-after-start : tie.Need-part-blanks-after-start Inv-loop μ-loop
+part-blanks-after-start c = search needs
+
+part-blanks-after-end : tie.Need-part-blanks-after-end Inv-loop μ-loop
+part-blanks-after-end c = search needs
+
+blanks-after-requires : tie.Need-blanks-after-requires Inv-loop μ-loop
+blanks-after-requires c κs = search needs
 
 add-at : tie.Need-add-at Inv-loop μ-loop
 add-at c = search needs
@@ -61,6 +73,10 @@ lines-spec =
     line-right-requires
     wrapping-add-u64-requires
     noted-requires
+    sub-blanks-after
+    part-blanks-after-start
+    part-blanks-after-end
+    blanks-after-requires
     add-at
     loop-less
     loop-again

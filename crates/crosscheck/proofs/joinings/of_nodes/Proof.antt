@@ -7,10 +7,10 @@ use Rattle.crosscheck.proofs.joinings.of_nodes.Statement.{statement}
 use Rattle.crosscheck.proofs.joinings.of_nodes.Tie as tie
 
 abbrev Inv-loop : tie.InvT-loop
-Inv-loop store₀ words₀ n counter₀ store words counter = (length store ≡ length store₀) × (length words ≡ length words₀)
+Inv-loop store₀ words₀ n blanks counter₀ store words counter = (length store ≡ length store₀) × (length words ≡ length words₀)
 
 abbrev μ-loop : tie.MeasureT-loop
-μ-loop store₀ words₀ n counter₀ store words counter = 21147 - counter
+μ-loop store₀ words₀ n blanks counter₀ store words counter = 21147 - counter
 
 clear-requires : tie.Need-clear-requires Inv-loop μ-loop
 clear-requires c κs = search needs

@@ -7,10 +7,10 @@ use Rattle.crosscheck.proofs.joinings.test_all.Statement.{statement}
 use Rattle.crosscheck.proofs.joinings.test_all.Tie as tie
 
 abbrev Inv-loop : tie.InvT-loop
-Inv-loop store₀ words₀ n₀ store words n = (length store ≡ length store₀) × (length words ≡ length words₀)
+Inv-loop store₀ words₀ n₀ t4 store words n = (length store ≡ length store₀) × (length words ≡ length words₀)
 
 abbrev μ-loop : tie.MeasureT-loop
-μ-loop store₀ words₀ n₀ store words n = 10 - n
+μ-loop store₀ words₀ n₀ t4 store words n = 10 - n
 
 loop-holds : tie.Need-loop-holds Inv-loop μ-loop
 loop-holds c = search needs
@@ -26,6 +26,12 @@ loop-less c = search needs
 
 loop-again : tie.Need-loop-again Inv-loop μ-loop
 loop-again c = search needs
+
+slice-aggregate-report-source : tie.Need-slice-aggregate-report-source Inv-loop μ-loop
+slice-aggregate-report-source c = search needs
+
+report-source-requires : tie.Need-report-source-requires Inv-loop μ-loop
+report-source-requires c κs = search needs
 
 same-length : tie.Need-same-length Inv-loop μ-loop
 same-length c = search needs
@@ -47,6 +53,8 @@ test-all-spec =
     add-n
     loop-less
     loop-again
+    slice-aggregate-report-source
+    report-source-requires
     same-length
     same-length-2
     returns)

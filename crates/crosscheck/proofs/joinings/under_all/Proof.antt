@@ -7,10 +7,10 @@ use Rattle.crosscheck.proofs.joinings.under_all.Statement.{statement}
 use Rattle.crosscheck.proofs.joinings.under_all.Tie as tie
 
 abbrev Inv-loop : tie.InvT-loop
-Inv-loop store₀ words₀ n pair₀ store words pair = (length store ≡ length store₀) × (length words ≡ length words₀)
+Inv-loop store₀ words₀ n source pair₀ store words pair = (length store ≡ length store₀) × (length words ≡ length words₀)
 
 abbrev μ-loop : tie.MeasureT-loop
-μ-loop store₀ words₀ n pair₀ store words pair = 16 - pair
+μ-loop store₀ words₀ n source pair₀ store words pair = 16 - pair
 
 loop-holds : tie.Need-loop-holds Inv-loop μ-loop
 loop-holds c = search needs

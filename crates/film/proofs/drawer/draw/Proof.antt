@@ -1,5 +1,4 @@
 -- `film::drawer::draw` meets its contract: a fault of the sheet, else what is drawn of a sheet without one. Assumes nothing.
-use mathlib.Core.Path.{sym, _∙_}
 use Rattle.rules.specs.Judgement.{judge}
 use Rattle.sheet.proofs.Tells.{fault-told, none-told}
 use Rattle.film.proofs.Finish.{draw-unfit}

@@ -17,8 +17,8 @@ get-bits-requires c κs = search needs
 cast-above : tie.Need-cast-above
 cast-above c = search needs
 
-upper-wires-requires : tie.Need-upper-wires-requires
-upper-wires-requires c κs =
+upper-at-requires : tie.Need-upper-at-requires
+upper-at-requires c κs =
     let b = c .before .before in
     let e = got-entry (b .pre .0) (c .get-bits .ensures) in
     (b .pre .1, above-of e (b .pre .2))
@@ -26,9 +26,9 @@ upper-wires-requires c κs =
 returns : tie.Need-returns
 returns c =
     let b = c .before .before .before in
-    record { is = got-entry (b .pre .0) (c .before .get-bits .ensures); upper = c .upper-wires .ensures }
+    record { is = got-entry (b .pre .0) (c .before .get-bits .ensures); upper = c .upper-at .ensures }
 
 pub node-at-spec : {M : Type 1} → statement M
 node-at-spec =
     tie.close
-    (tie.spec mul-get-bits add-get-bits get-bits-requires cast-above upper-wires-requires returns)
+    (tie.spec mul-get-bits add-get-bits get-bits-requires cast-above upper-at-requires returns)

@@ -12,13 +12,16 @@ use Rattle.film.proofs.nodes.begin.Statement.{statement}
 use Rattle.film.proofs.nodes.begin.Tie as tie
 
 add-level-at : tie.Need-add-level-at
-add-level-at c = search needs
+add-level-at c =
+    let b = c .before .before in
+    let a = b .args in
+    omega (arith, begins-near (a .pen) (a .node) (a .begun) (a .x) (b .pre .0) (kind-begins (a .node .kind) (b .pre .1)), b .pre .0 .fitting .upper)
 
 level-at-requires : tie.Need-level-at-requires
 level-at-requires c κs =
     let b = c .before .before in
     let a = b .args in
-    omega (arith, begins-near (a .pen) (a .node) (a .begun) (a .x) (b .pre .0), b .pre .0 .fitting .upper)
+    omega (arith, begins-near (a .pen) (a .node) (a .begun) (a .x) (b .pre .0) (kind-begins (a .node .kind) (b .pre .1)), b .pre .0 .fitting .upper)
 
 cast-insert : tie.Need-cast-insert
 cast-insert c =

@@ -5,7 +5,7 @@ use Rattle.lent.proofs.films.copies.Statement.{statement}
 use Rattle.lent.proofs.films.copies.Tie as tie
 
 abbrev Inv-loop : tie.InvT-loop
-Inv-loop film k wanted from found₀ i₀ found i = k ≤ 1638
+Inv-loop film k wanted from found₀ i₀ found i = k ≤ 7168
 
 abbrev μ-loop : tie.MeasureT-loop
 μ-loop film k wanted from found₀ i₀ found i = k - i

@@ -5,7 +5,7 @@ use Rattle.lent.proofs.films.has_records.Statement.{statement}
 use Rattle.lent.proofs.films.has_records.Tie as tie
 
 abbrev Inv-loop : tie.InvT-loop
-Inv-loop film wanted k i₀ i = k ≤ 1638
+Inv-loop film wanted k i₀ i = k ≤ 7168
 
 abbrev μ-loop : tie.MeasureT-loop
 μ-loop film wanted k i₀ i = k - i

@@ -46,7 +46,7 @@ spread-requires c κs =
       (
         rw e s,
         omega (arith, g .pre .0 .room, f .long, t),
-        λ k. stop-behind (a .kinds .now) (a .ages .now) (a .counts .now) (a .ku) (a .kl) (l .i) t (a .work .now) (g .pre .0) (rw e at k),
+        λ k m. stop-behind (a .kinds .now) (a .ages .now) (a .counts .now) (a .ku) (a .kl) (l .i) t (a .work .now) (g .pre .0) (rw e at k) (rw e at m),
       ),
       (
         d .ensures .sound,

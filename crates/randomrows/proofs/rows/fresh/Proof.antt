@@ -10,7 +10,7 @@ abbrev Inv-loop : tie.InvT-loop
 Inv-loop store₀ words start k₀ store k = length store ≡ length store₀
 
 abbrev μ-loop : tie.MeasureT-loop
-μ-loop store₀ words start k₀ store k = 256 - k
+μ-loop store₀ words start k₀ store k = 255 - k
 
 draw-requires : tie.Need-draw-requires Inv-loop μ-loop
 draw-requires c κs = search needs

@@ -7,10 +7,10 @@ use Rattle.randomrows.proofs.rows.make.Statement.{statement}
 use Rattle.randomrows.proofs.rows.make.Tie as tie
 
 abbrev Inv-loop : tie.InvT-loop
-Inv-loop store₀ words₀ n pair style free i₀ store words i = (length store ≡ length store₀) × (length words ≡ length words₀)
+Inv-loop store₀ words₀ n pair share style free i₀ store words i = (length store ≡ length store₀) × (length words ≡ length words₀)
 
 abbrev μ-loop : tie.MeasureT-loop
-μ-loop store₀ words₀ n pair style free i₀ store words i = n - i
+μ-loop store₀ words₀ n pair share style free i₀ store words i = n - i
 
 begin-requires : tie.Need-begin-requires Inv-loop μ-loop
 begin-requires c κs = search needs

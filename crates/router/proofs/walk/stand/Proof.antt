@@ -1,8 +1,8 @@
--- `router::walk::stand` meets its contract, by the kind: `entered-stood`, `met-stood` and `ended-stood`. Assumes nothing.
+-- `router::walk::stand` meets its contract, by the kind: `entered-stood`, `met-stood`, `ended-stood` and `rested-stood`. Assumes nothing.
 use native.Mathlib.Omega.{arith}
 use borrow.Author.Needs.{needs}
 use Rattle.orders.proofs.Entering.{enters-somewhere, enters-room, enters-ranks}
-use Rattle.router.proofs.Turning.{entered-room, entered-stood, touched-open, met-stood, ended-stood}
+use Rattle.router.proofs.Turning.{entered-room, entered-stood, touched-open, met-stood, ended-stood, rested-stood}
 use Rattle.router.proofs.walk.stand.Statement.{statement}
 use Rattle.router.proofs.walk.stand.Tie as tie
 
@@ -41,7 +41,7 @@ find-requires c κs =
     let g = c .before .before .before .before .before in
     let a = g .args in (
       g .pre .0 .sound,
-      touched-open (a .held) (a .stop) (a .work .now) (a .g) (a .r) (a .x) (g .pre .0) (omega (arith, c .match .keys2)),
+      touched-open (a .held) (a .stop) (a .work .now) (a .g) (a .r) (a .x) (g .pre .0) (omega (arith, c .match .keys2)) (omega (arith, c .match .keys2)),
     )
 
 cast-t22 : tie.Need-cast-t22
@@ -52,14 +52,14 @@ find-requires-2 c κs =
     let g = c .before .before .before .before .before in
     let a = g .args in (
       g .pre .0 .sound,
-      touched-open (a .held) (a .stop) (a .work .now) (a .g) (a .r) (a .x) (g .pre .0) (omega (arith, c .match .rest)),
+      touched-open (a .held) (a .stop) (a .work .now) (a .g) (a .r) (a .x) (g .pre .0) (omega (arith, c .match .keys3)) (omega (arith, c .match .keys3)),
     )
 
 locate-requires : tie.Need-locate-requires
 locate-requires c κs =
     let g = c .before .before .before .before .before .before in
     let w = g .pre .0 in
-    (g .pre .1, w .stop .touched (omega (arith, c .before .match .rest)), w .stop .few, w .rank)
+    (g .pre .1, w .stop .touched (omega (arith, c .before .match .keys3)) (omega (arith, c .before .match .keys3)), w .stop .few, w .rank)
 
 remove-requires : tie.Need-remove-requires
 remove-requires c κs =
@@ -67,11 +67,14 @@ remove-requires c κs =
     let a = g .args in (
       g .pre .0 .sound,
       omega
-          (arith, c .before .find2 .ensures .place, touched-open (a .held) (a .stop) (a .work .now) (a .g) (a .r) (a .x) (g .pre .0) (omega (arith, c .before .before .match .rest))),
+          (arith, c .before .find2 .ensures .place, touched-open (a .held) (a .stop) (a .work .now) (a .g) (a .r) (a .x) (g .pre .0) (omega (arith, c .before .before .match .keys3)) (omega (arith, c .before .before .match .keys3))),
     )
 
 cast-t23 : tie.Need-cast-t23
 cast-t23 c = search needs
+
+fewest-above-requires : tie.Need-fewest-above-requires
+fewest-above-requires c κs = tt
 
 returns : tie.Need-returns
 returns c =
@@ -85,7 +88,7 @@ returns-2 : tie.Need-returns-2
 returns-2 c =
     let g = c .before .before .before .before .before .before in
     let a = g .args in
-    met-stood (a .held) (a .stop) (a .work .now) (a .g) (a .r) (a .x) (g .pre .0) (omega (arith, c .before .match .keys2)) (c .find .result)
+    met-stood (a .held) (a .stop) (a .work .now) (a .g) (a .r) (a .x) (g .pre .0) (omega (arith, c .before .match .keys2)) (omega (arith, c .before .match .keys2)) (c .find .result)
     (c .find .ensures .place) (c .before .match .keys2)
 
 returns-3 : tie.Need-returns-3
@@ -94,9 +97,16 @@ returns-3 c =
     let a = g .args in
     let f = c .before .before .find2 in
     let l = c .before .locate in
-    let m = c .before .before .before .match .rest in
-    ended-stood (a .held) (a .stop) (a .work .now) (a .g) (a .r) (a .x) (g .pre .0) (omega (arith, m)) (f .result) (f .ensures .place)
-    (omega (arith, m, g .pre .0 .kind)) (l .result .rest) (l .ensures .rest) (c .remove .result) (c .remove .ensures .sound) (c .remove .ensures .list)
+    let m = c .before .before .before .match .keys3 in
+    ended-stood (a .held) (a .stop) (a .work .now) (a .g) (a .r) (a .x) (g .pre .0) (omega (arith, m)) (omega (arith, m)) (f .result) (f .ensures .place)
+    m (l .result .rest) (l .ensures .rest) (c .remove .result) (c .remove .ensures .sound) (c .remove .ensures .list)
+
+returns-4 : tie.Need-returns-4
+returns-4 c =
+    let g = c .before .before .before .before .before .before in
+    let a = g .args in
+    rested-stood (a .held) (a .stop) (a .work .now) (a .g) (a .r) (a .x) (g .pre .0) (omega (arith, c .before .match .rest)) (c .fewest-above .result)
+    (c .fewest-above .ensures)
 
 pub stand-spec : {M : Type 1} → statement M
 stand-spec =
@@ -113,6 +123,8 @@ stand-spec =
     locate-requires
     remove-requires
     cast-t23
+    fewest-above-requires
     returns
     returns-2
-    returns-3)
+    returns-3
+    returns-4)

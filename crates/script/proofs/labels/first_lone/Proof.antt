@@ -1,8 +1,10 @@
 -- `script::labels::first_lone` meets its contract. The loop's invariant: no node passed is lone. Assumes nothing.
+use mathlib.Core.Logic.{⊎-elim}
 use Prim.Native.Nat.{_-_, _≤_}
 use native.Mathlib.Omega.{arith}
 use lib.ListN.{length}
-use Rattle.script.proofs.Noting.{NoneBefore, lone-found, lone-past, lone-none}
+use borrow.Author.Tests.{eqb-true, eqb-false}
+use Rattle.script.proofs.Noting.{NoneBefore, lone-found, lone-past, blank-past, lone-none}
 use Rattle.script.proofs.labels.first_lone.Statement.{statement}
 use Rattle.script.proofs.labels.first_lone.Tie as tie
 
@@ -21,23 +23,24 @@ shared-slice-read-x c = omega arith
 cast-x : tie.Need-cast-x Inv-loop μ-loop
 cast-x c = omega (arith, c .shared-slice-known .given (c .before .before .loop .i))
 
-mul-if1 : tie.Need-mul-if1 Inv-loop μ-loop
-mul-if1 c = omega (arith, c .shared-slice-known .given (c .before .before .loop .i))
+mul-if2 : tie.Need-mul-if2 Inv-loop μ-loop
+mul-if2 c = omega (arith, c .before .shared-slice-known .given (c .before .before .before .loop .i))
 
-element-copy-out-if1 : tie.Need-element-copy-out-if1 Inv-loop μ-loop
-element-copy-out-if1 c = omega (arith, c .shared-slice-known .given (c .before .before .loop .i))
+element-copy-out-if2 : tie.Need-element-copy-out-if2 Inv-loop μ-loop
+element-copy-out-if2 c = omega (arith, c .before .shared-slice-known .given (c .before .before .before .loop .i))
 
-mul-if1-2 : tie.Need-mul-if1-2 Inv-loop μ-loop
-mul-if1-2 c = omega (arith, c .before .shared-slice-known .given (c .before .before .before .loop .i))
+mul-if2-2 : tie.Need-mul-if2-2 Inv-loop μ-loop
+mul-if2-2 c = omega (arith, c .before .before .shared-slice-known .given (c .before .before .before .before .loop .i))
 
-element-copy-out-if1-2 : tie.Need-element-copy-out-if1-2 Inv-loop μ-loop
-element-copy-out-if1-2 c = omega (arith, c .before .shared-slice-known .given (c .before .before .before .loop .i))
+element-copy-out-if2-2 : tie.Need-element-copy-out-if2-2 Inv-loop μ-loop
+element-copy-out-if2-2 c = omega (arith, c .before .before .shared-slice-known .given (c .before .before .before .before .loop .i))
 
 returns : tie.Need-returns Inv-loop μ-loop
 returns c =
-    let s = c .before .before .before .before .before .before in
-    let l = c .before .before .before .before .before .loop in
-    lone-found (s .args .row .now) (s .args .first .now) (s .args .last .now) (s .pre) (l .i) (l .inv .1) (omega arith) (c .if1 .taken)
+    let s = c .before .before .before .before .before .before .before in
+    let g = s .args in
+    let l = c .before .before .before .before .before .before .loop in
+    lone-found (g .row .now) (g .first .now) (g .last .now) (s .pre) (l .i) (l .inv .1) (omega arith) (c .before .before .before .if1 .taken) (eqb-true _ _ (c .if2 .taken))
 
 add-i : tie.Need-add-i Inv-loop μ-loop
 add-i c = omega arith
@@ -47,9 +50,15 @@ loop-less c = omega arith
 
 loop-again : tie.Need-loop-again Inv-loop μ-loop
 loop-again c =
-    let s = c .before .before .before .before .before .before in
-    let l = c .before .before .before .before .before .loop in
-    (omega arith, lone-past (s .args .row .now) (s .args .first .now) (s .args .last .now) (s .pre) (l .i) (l .inv .1) (omega arith) (c .if1 .left))
+    let s = c .before .before .before .before in
+    let g = s .args in
+    let l = c .before .before .before .loop in (
+      omega arith,
+      ⊎-elim
+          (λ w. lone-past (g .row .now) (g .first .now) (g .last .now) (s .pre) (l .i) (l .inv .1) (omega arith) (w .0 .taken) (eqb-false _ _ (w .3 .left)))
+          (λ w. blank-past (g .row .now) (g .first .now) (g .last .now) (s .pre) (l .i) (l .inv .1) (omega arith) (w .left))
+          (c .if1 .came),
+    )
 
 returns-2 : tie.Need-returns-2 Inv-loop μ-loop
 returns-2 c =
@@ -65,10 +74,10 @@ first-lone-spec =
     loop-holds
     shared-slice-read-x
     cast-x
-    mul-if1
-    element-copy-out-if1
-    mul-if1-2
-    element-copy-out-if1-2
+    mul-if2
+    element-copy-out-if2
+    mul-if2-2
+    element-copy-out-if2-2
     returns
     add-i
     loop-less

@@ -8,10 +8,10 @@ use Rattle.script.proofs.labels.lone_labels.Statement.{statement}
 use Rattle.script.proofs.labels.lone_labels.Tie as tie
 
 abbrev Inv-loop : tie.InvT-loop
-Inv-loop first last count₀ x₀ count x = (x ≤ 256) × (count ≤ x) × (count ≡ 0 → Apart first last x)
+Inv-loop first last count₀ x₀ count x = (x ≤ 255) × (count ≤ x) × (count ≡ 0 → Apart first last x)
 
 abbrev μ-loop : tie.MeasureT-loop
-μ-loop first last count₀ x₀ count x = 256 - x
+μ-loop first last count₀ x₀ count x = 255 - x
 
 loop-holds : tie.Need-loop-holds Inv-loop μ-loop
 loop-holds c = (omega arith, omega arith, λ e y h. absurd (omega arith))
@@ -49,7 +49,7 @@ loop-again c =
 returns : tie.Need-returns Inv-loop μ-loop
 returns c =
     let l = c .before .loop in
-    let e : l .x ≡ 256 = omega arith in
+    let e : l .x ≡ 255 = omega arith in
     rw e at (l .inv .2)
 
 pub lone-labels-spec : {M : Type 1} → statement M

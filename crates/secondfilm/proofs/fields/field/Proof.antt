@@ -5,10 +5,10 @@ use Rattle.secondfilm.proofs.fields.field.Statement.{statement}
 use Rattle.secondfilm.proofs.fields.field.Tie as tie
 
 abbrev Inv-loop : tie.InvT-loop
-Inv-loop s i width v₀ k₀ v k = Unit {0}
+Inv-loop s base i width v₀ k₀ v k = Unit {0}
 
 abbrev μ-loop : tie.MeasureT-loop
-μ-loop s i width v₀ k₀ v k = width - k
+μ-loop s base i width v₀ k₀ v k = width - k
 
 loop-holds : tie.Need-loop-holds Inv-loop μ-loop
 loop-holds c = search needs

@@ -10,11 +10,14 @@ Inv-loop store n nets pair count₀ i₀ count i = Unit {0}
 abbrev μ-loop : tie.MeasureT-loop
 μ-loop store n nets pair count₀ i₀ count i = n - i
 
-plus-requires : tie.Need-plus-requires Inv-loop μ-loop
-plus-requires c κs = search needs
-
 loop-holds : tie.Need-loop-holds Inv-loop μ-loop
 loop-holds c = search needs
+
+stub-requires : tie.Need-stub-requires Inv-loop μ-loop
+stub-requires c κs = search needs
+
+plus-requires : tie.Need-plus-requires Inv-loop μ-loop
+plus-requires c κs = search needs
 
 added-in-gap-requires : tie.Need-added-in-gap-requires Inv-loop μ-loop
 added-in-gap-requires c κs = search needs
@@ -40,8 +43,9 @@ records-spec =
     (tie.spec
     Inv-loop
     μ-loop
-    plus-requires
     loop-holds
+    stub-requires
+    plus-requires
     added-in-gap-requires
     plus-requires-2
     add-i

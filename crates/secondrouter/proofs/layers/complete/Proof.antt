@@ -39,8 +39,8 @@ layer-requires-2 c κs = search needs
 num-requires : tie.Need-num-requires Inv-loop μ-loop
 num-requires c κs = search needs
 
-less-requires-2 : tie.Need-less-requires-2 Inv-loop μ-loop
-less-requires-2 c κs = search needs
+turned-requires : tie.Need-turned-requires Inv-loop μ-loop
+turned-requires c κs = search needs
 
 across-requires : tie.Need-across-requires Inv-loop μ-loop
 across-requires c κs = search needs
@@ -78,7 +78,7 @@ complete-spec =
     layer-requires
     layer-requires-2
     num-requires
-    less-requires-2
+    turned-requires
     across-requires
     add-back
     loop-less

@@ -5,10 +5,10 @@ use Rattle.secondrouter.proofs.nets.seek.Statement.{statement}
 use Rattle.secondrouter.proofs.nets.seek.Tie as tie
 
 abbrev Inv-loop : tie.InvT-loop
-Inv-loop store from to x j₀ j = Unit {0}
+Inv-loop store base from to x j₀ j = Unit {0}
 
 abbrev μ-loop : tie.MeasureT-loop
-μ-loop store from to x j₀ j = to - j
+μ-loop store base from to x j₀ j = to - j
 
 loop-holds : tie.Need-loop-holds Inv-loop μ-loop
 loop-holds c = search needs

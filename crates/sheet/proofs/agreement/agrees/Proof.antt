@@ -5,6 +5,7 @@ use Prim.Native.Nat.{ℕ}
 use native.Mathlib.Omega.{arith}
 use lib.ListN.{replicate, length-replicate}
 use Rattle.rules.specs.Answers.{samePins}
+use Rattle.rules.proofs.Accepted.{readable-exactly}
 use Rattle.sheet.proofs.Turns.{row-turn}
 use Rattle.sheet.proofs.Agreements.{agrees-when, agrees-not, unfit-means, short-never, row-means}
 use borrow.Author.Needs.{needs}
@@ -42,7 +43,8 @@ same-pins-requires c κs =
     let r = c .before .before .before .before .before .read in
     let a = c .before .before .answer .given in
     let o = row-means s (replicate 512 0) (r .result) (r .last .1 .0) (r .ensures) (a .0 .0) (a .1) in
-    rw (o .row) (row-turn s (o .judged))
+    let p = readable-exactly s .0 (o .passes) in
+    rw (o .row) (row-turn s (p .0) (p .1))
 
 enum-told : tie.Need-enum-told
 enum-told c = search needs
@@ -57,7 +59,7 @@ returns c =
     let a = c .before .before .before .answer .given in
     let o = row-means s (replicate 512 0) (r .result) (r .last .1 .0) (r .ensures) (a .0 .0) (a .1) in
     let row = c .before .before .before .before .before .before .before .before .before .before .args .row .now in
-    c .same-pins .ensures ∙ ap (samePins row) (o .row) ∙ sym (agrees-when row s (o .judged))
+    c .same-pins .ensures ∙ ap (samePins row) (o .row) ∙ sym (agrees-when row s (o .passes))
 
 returns-2 : tie.Need-returns-2
 returns-2 c =

@@ -21,6 +21,9 @@ returns c =
     let a = c .before .before .before .args in
     sym (other-test (a .row .now) (a .own .now) (λ s. c .if1 .taken (s .count)))
 
+array-write-nets : tie.Need-array-write-nets Inv-loop μ-loop
+array-write-nets c = omega arith
+
 loop-holds : tie.Need-loop-holds Inv-loop μ-loop
 loop-holds c =
     let a = c .before .before .before in
@@ -60,8 +63,8 @@ add-nets c = omega (arith, c .before .before .shared-slice-known4 .given (c .bef
 mul-nets : tie.Need-mul-nets Inv-loop μ-loop
 mul-nets c = omega (arith, c .before .before .before .shared-slice-known3 .given (c .before .before .before .before .before .loop .i))
 
-array-write-nets : tie.Need-array-write-nets Inv-loop μ-loop
-array-write-nets c = omega (arith, c .before .before .before .shared-slice-known3 .given (c .before .before .before .before .before .loop .i))
+array-write-nets-2 : tie.Need-array-write-nets-2 Inv-loop μ-loop
+array-write-nets-2 c = omega (arith, c .before .before .before .shared-slice-known3 .given (c .before .before .before .before .before .loop .i))
 
 begun-after-requires : tie.Need-begun-after-requires Inv-loop μ-loop
 begun-after-requires c κs = omega (arith, c .before .before .shared-slice-known4 .given (c .before .before .before .before .before .loop .i))
@@ -94,6 +97,7 @@ same-pins-spec =
     Inv-loop
     μ-loop
     returns
+    array-write-nets
     loop-holds
     shared-slice-read-label
     cast-label
@@ -105,7 +109,7 @@ same-pins-spec =
     returns-2
     add-nets
     mul-nets
-    array-write-nets
+    array-write-nets-2
     begun-after-requires
     add-i
     loop-less

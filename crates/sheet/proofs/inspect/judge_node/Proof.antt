@@ -1,14 +1,13 @@
 -- `sheet::inspect::judge_node` meets its contract: both fields are read as one of six bits, and each kind tells what its law says. Assumes nothing.
 use mathlib.Core.Path.{sym, ap, _∙_}
-use Prim.Native.Nat.{ℕ, _+_, _/_, _%_}
+use Prim.Native.Nat.{ℕ, _+_, _%_}
 use native.Mathlib.Omega.{arith}
 use borrow.Author.Needs.{needs}
-use Rattle.rules.specs.Sheet.{Entry, entry}
+use Rattle.rules.specs.Sheet.{Entry}
 use Rattle.rules.specs.Judgement.{faultAt, left}
 use Rattle.sheet.specs.declared.inspect.Passed.{Passed}
 use Rattle.sheet.specs.Told.{passed, kindAt}
-use Rattle.sheet.proofs.Wires.{node-begins, node-goes-on, node-ends, node-unknown, got-entry}
-use Rattle.sheet.proofs.Tells.{passed-fault}
+use Rattle.sheet.proofs.Wires.{node-begins, node-goes-on, node-ends, node-blank, got-entry}
 use Rattle.sheet.proofs.inspect.judge_node.Statement.{statement}
 use Rattle.sheet.proofs.inspect.judge_node.Tie as tie
 
@@ -38,6 +37,9 @@ judge-wire-requires-2 c κs = search needs
 
 judge-wire-requires-3 : tie.Need-judge-wire-requires-3
 judge-wire-requires-3 c κs = search needs
+
+judge-blank-requires : tie.Need-judge-blank-requires
+judge-blank-requires c κs = search needs
 
 -- what the contract says of an entry
 abbrev says : (ku kl i b : ℕ) → Entry → Passed
@@ -69,10 +71,11 @@ returns-3 c =
 
 returns-4 : tie.Need-returns-4
 returns-4 c =
-    let a = c .before .before .before .args in
-    let g = c .before .get-bits in
-    passed-fault (left (kindAt (entry (g .result / 16) (g .result % 16))) (a .b)) (node-unknown (a .ku) (a .kl) (a .i + 1) (g .result % 16) (a .b) (omega (arith, g .ensures .low)))
-    ∙ sym (ap (says (a .ku) (a .kl) (a .i) (a .b)) (got-entry (c .before .before .before .pre .0) (g .ensures)))
+    let a = c .before .before .before .before .args in
+    let g = c .before .before .get-bits in
+    c .judge-blank .ensures
+    ∙ sym (node-blank (a .ku) (a .kl) (a .i + 1) (g .result % 16) (a .b) (omega (arith, g .ensures .low)))
+    ∙ sym (ap (says (a .ku) (a .kl) (a .i) (a .b)) (got-entry (c .before .before .before .before .pre .0) (g .ensures)))
 
 pub judge-node-spec : {M : Type 1} → statement M
 judge-node-spec =
@@ -87,6 +90,7 @@ judge-node-spec =
     judge-wire-requires
     judge-wire-requires-2
     judge-wire-requires-3
+    judge-blank-requires
     returns
     returns-2
     returns-3

@@ -1,10 +1,10 @@
--- `sheet::reader::read_body` meets its contract: 14, then the body's faults, and nothing is written before both found none. Assumes nothing.
+-- `sheet::reader::read_body` meets its contract: 14, then the body's faults, and where both find none what is read then. Assumes nothing.
 use native.Mathlib.Omega.{arith}
 use Rattle.rules.specs.Basic.{orElse}
 use Rattle.rules.specs.Judgement.{middle, tail}
 use Rattle.sheet.proofs.Heads.{headed, got-count}
 use Rattle.sheet.proofs.Tells.{fault-told, none-told}
-use Rattle.sheet.proofs.Readings.{read-short, read-unfit, read-fine, judged}
+use Rattle.sheet.proofs.Readings.{body-first, read-short, read-unfit, judged}
 use borrow.Author.Needs.{needs}
 use Rattle.sheet.proofs.reader.read_body.Statement.{statement}
 use Rattle.sheet.proofs.reader.read_body.Tie as tie
@@ -30,8 +30,8 @@ inspect-body-requires c κs = search needs
 enum-told : tie.Need-enum-told
 enum-told c = search needs
 
-write-row-requires : tie.Need-write-row-requires
-write-row-requires c κs =
+read-legal-requires : tie.Need-read-legal-requires
+read-legal-requires c κs =
     let a = c .before .before .before .before .before .before .before .before in
     let s = a .args .s .now in
     let n = got-count (c .before .before .before .before .before .get-bits .ensures) in
@@ -45,12 +45,7 @@ same-length : tie.Need-same-length
 same-length c = search needs
 
 returns-2 : tie.Need-returns-2
-returns-2 c =
-    let a = c .before .before .before .before .before .before .before .before .before .before .before in
-    let s = a .args .s .now in
-    let n = got-count (c .before .before .before .before .before .before .before .before .get-bits .ensures) in
-    let b = none-told (orElse (middle s) (tail s)) (c .before .before .before .before .before .before .inspect-body .ensures) (c .before .before .before .before .enum-told .given .1) in
-    read-fine s (a .args .row .now) (a .pre) (omega arith) b n (c .before .before .write-row .ensures)
+returns-2 c = search needs
 
 returns-3 : tie.Need-returns-3
 returns-3 c =
@@ -58,7 +53,7 @@ returns-3 c =
     let s = a .args .s .now in
     let n = got-count (c .before .before .before .before .before .get-bits .ensures) in
     let b = fault-told (orElse (middle s) (tail s)) (c .before .before .before .inspect-body .ensures) (c .before .found .given .1) in
-    read-unfit s (a .args .row .now) (a .pre) (omega arith) b
+    read-unfit s (a .args .row .now) (a .pre) (omega arith) (body-first s b)
 
 pub read-body-spec : {M : Type 1} → statement M
 read-body-spec =
@@ -69,7 +64,7 @@ read-body-spec =
     returns
     inspect-body-requires
     enum-told
-    write-row-requires
+    read-legal-requires
     enum-known-found
     same-length
     returns-2

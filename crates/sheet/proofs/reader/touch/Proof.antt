@@ -1,7 +1,7 @@
 -- `sheet::reader::touch` meets its contract: both fields are read as one of six bits, and each kind does what its law says. Assumes nothing.
 use native.Mathlib.Omega.{arith}
 use Rattle.sheet.proofs.Wires.{got-entry}
-use Rattle.sheet.proofs.Touches.{at-begins, at-goes-on, at-ends, ready-begins, ready-goes-on, ready-ends, touched-begins, touched-goes-on, touched-ends}
+use Rattle.sheet.proofs.Touches.{at-begins, at-goes-on, at-ends, at-blank, ready-begins, ready-goes-on, ready-ends, touched-begins, touched-goes-on, touched-ends, touched-blank}
 use borrow.Author.Needs.{needs}
 use Rattle.sheet.proofs.reader.touch.Statement.{statement}
 use Rattle.sheet.proofs.reader.touch.Tie as tie
@@ -48,13 +48,13 @@ label-requires c κs =
 label-requires-2 : tie.Need-label-requires-2
 label-requires-2 c κs =
     let b = c .before .before .before in
-    let t = at-ends (got-entry (b .pre .0) (c .before .get-bits .ensures)) (omega arith) in
+    let t = at-ends (got-entry (b .pre .0) (c .before .get-bits .ensures)) (c .match .keys3) in
     (b .pre .1 .sound, ready-ends t (b .pre .1))
 
 remove-requires : tie.Need-remove-requires
 remove-requires c κs =
     let b = c .before .before .before .before in
-    let t = at-ends (got-entry (b .pre .0) (c .before .before .get-bits .ensures)) (omega arith) in
+    let t = at-ends (got-entry (b .pre .0) (c .before .before .get-bits .ensures)) (c .before .match .keys3) in
     (b .pre .1 .sound, ready-ends t (b .pre .1))
 
 returns : tie.Need-returns
@@ -72,8 +72,13 @@ returns-2 c =
 returns-3 : tie.Need-returns-3
 returns-3 c =
     let b = c .before .before .before .before .before in
-    let t = at-ends (got-entry (b .pre .0) (c .before .before .before .get-bits .ensures)) (omega arith) in
+    let t = at-ends (got-entry (b .pre .0) (c .before .before .before .get-bits .ensures)) (c .before .before .match .keys3) in
     touched-ends t (c .before .label2 .ensures) (c .remove .ensures)
+
+returns-4 : tie.Need-returns-4
+returns-4 c =
+    let b = c .before .before .before in
+    touched-blank (at-blank (got-entry (b .pre .0) (c .before .get-bits .ensures)) (omega arith)) (b .pre .1 .sound)
 
 pub touch-spec : {M : Type 1} → statement M
 touch-spec =
@@ -91,4 +96,5 @@ touch-spec =
     remove-requires
     returns
     returns-2
-    returns-3)
+    returns-3
+    returns-4)

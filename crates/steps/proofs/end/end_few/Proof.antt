@@ -21,7 +21,7 @@ few-left-requires : tie.Need-few-left-requires
 few-left-requires c κs =
     let g = c .before .before .before .before .before .before .before .args in
     let h = c .before .before .before .before .before .before .before .pre in (
-      (h .1 .1 .1 .0, h .0 .0 .touched (omega arith), h .1 .1 .1 .1, c .before .before .legal .ensures .below),
+      (h .1 .1 .1 .0, h .0 .0 .touched (omega arith) (omega arith), h .1 .1 .1 .1, c .before .before .legal .ensures .below),
       few-below (g .work .now) (g .g) (g .stop .count) (h .1 .1 .1 .1) (c .before2 .result) (c .before2 .ensures) (λ x l e. h .1 .1 .0 x e .below),
     )
 

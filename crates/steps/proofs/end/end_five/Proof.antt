@@ -19,7 +19,7 @@ five-left-requires : tie.Need-five-left-requires
 five-left-requires c κs =
     let h = c .before .before .before .before .before .before .pre in
     let l = c .before .before .legal in
-    (h .1 .1 .1 .0, omega (arith, h .0 .0 .touched (omega arith)), legal-inside _ _ (l .result) (h .0 .0 .upper) (h .0 .0 .lower) (l .ensures))
+    (h .1 .1 .1 .0, omega (arith, h .0 .0 .touched (omega arith) (omega arith)), legal-inside _ _ (l .result) (h .0 .0 .upper) (h .0 .0 .lower) (l .ensures))
 
 put-word-requires : tie.Need-put-word-requires
 put-word-requires c κs = search needs

@@ -58,7 +58,7 @@ five-back-requires c κs =
     let g = start .args in
     let h = start .pre in
     let z = c .before .if2 .left in
-    let m = h .0 .0 .touched (omega arith) in
+    let m = h .0 .0 .touched (omega arith) (omega arith) in
     (h .1 .0, omega arith, third-inside)
 
 returns-3 : tie.Need-returns-3

@@ -57,7 +57,7 @@ five-left-requires c κs =
     let g = start .args in
     let h = start .pre in
     let z = c .if2 .left in
-    let m = h .0 .0 .touched (omega arith) in
+    let m = h .0 .0 .touched (omega arith) (omega arith) in
     (h .1 .1 .0, omega arith, third-inside)
 
 third-alone-requires-2 : tie.Need-third-alone-requires-2

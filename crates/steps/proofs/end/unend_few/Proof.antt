@@ -23,7 +23,7 @@ word-requires c κs = search needs
 few-back-requires : tie.Need-few-back-requires
 few-back-requires c κs =
     let h = c .before .before .before .before .before .before .before .before .pre in
-    (h .1 .1 .0, h .0 .0 .touched (omega arith), h .1 .1 .1, c .before .before .before .legal .ensures .below)
+    (h .1 .1 .0, h .0 .0 .touched (omega arith) (omega arith), h .1 .1 .1, c .before .before .before .legal .ensures .below)
 
 keep-word-requires : tie.Need-keep-word-requires
 keep-word-requires c κs = search needs

@@ -22,7 +22,7 @@ five-back-requires : tie.Need-five-back-requires
 five-back-requires c κs =
     let h = c .before .before .before .before .before .before .before .pre in
     let l = c .before .before .before .legal in
-    (h .1 .1 .0, omega (arith, h .0 .0 .touched (omega arith)), legal-inside _ _ (l .result) (h .0 .0 .upper) (h .0 .0 .lower) (l .ensures))
+    (h .1 .1 .0, omega (arith, h .0 .0 .touched (omega arith) (omega arith)), legal-inside _ _ (l .result) (h .0 .0 .upper) (h .0 .0 .lower) (l .ensures))
 
 keep-five-requires : tie.Need-keep-five-requires
 keep-five-requires c κs = search needs

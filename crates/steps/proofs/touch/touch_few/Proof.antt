@@ -19,7 +19,7 @@ legal-requires c κs = search needs
 few-at-requires : tie.Need-few-at-requires
 few-at-requires c κs =
     let h = c .before .before .before .before .before .pre in
-    (h .1 .1 .1 .0, h .0 .0 .touched (omega (arith, h .0 .3)), omega (arith, h .1 .1 .1 .1), c .legal .ensures .below)
+    (h .1 .1 .1 .0, h .0 .0 .touched (omega (arith, h .0 .3)) (omega (arith, h .0 .3)), omega (arith, h .1 .1 .1 .1), c .legal .ensures .below)
 
 sift-requires : tie.Need-sift-requires
 sift-requires c κs = search needs

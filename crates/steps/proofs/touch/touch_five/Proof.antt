@@ -28,7 +28,7 @@ five-at-requires : tie.Need-five-at-requires Inv-loop μ-loop
 five-at-requires c κs =
     let h = c .before .before .before .before .before .before .pre in (
       h .1 .1 .1 .0,
-      omega (arith, h .0 .0 .touched (omega (arith, h .0 .3)), h .1 .1 .1 .1),
+      omega (arith, h .0 .0 .touched (omega (arith, h .0 .3)) (omega (arith, h .0 .3)), h .1 .1 .1 .1),
       c .before .before .legal .ensures .below,
       omega (arith, c .loop-test .taken),
     )

@@ -41,7 +41,7 @@ loop-holds c =
 six-at-requires : tie.Need-six-at-requires Inv-loop μ-loop
 six-at-requires c κs =
     let h = c .before .before .before .before .before .before .before .before .pre in
-    (h .1 .1 .1 .0, omega (arith, h .0 .0 .touched (omega (arith, h .0 .3)), h .1 .1 .1 .1), omega (arith, c .loop-test .taken))
+    (h .1 .1 .1 .0, omega (arith, h .0 .0 .touched (omega (arith, h .0 .3)) (omega (arith, h .0 .3)), h .1 .1 .1 .1), omega (arith, c .loop-test .taken))
 
 add-sift : tie.Need-add-sift Inv-loop μ-loop
 add-sift c = omega (arith, c .before .before .loop-test .taken)

@@ -5,10 +5,10 @@ use Rattle.tallies.proofs.tally.write_hex.Statement.{statement}
 use Rattle.tallies.proofs.tally.write_hex.Tie as tie
 
 abbrev Inv-loop : tie.InvT-loop
-Inv-loop store n i₀ i = Unit {0}
+Inv-loop store base n i₀ t5 i = Unit {0}
 
 abbrev μ-loop : tie.MeasureT-loop
-μ-loop store n i₀ i = n - i
+μ-loop store base n i₀ t5 i = n - i
 
 loop-holds : tie.Need-loop-holds Inv-loop μ-loop
 loop-holds c = search needs
@@ -28,6 +28,12 @@ loop-less c = search needs
 loop-again : tie.Need-loop-again Inv-loop μ-loop
 loop-again c = search needs
 
+slice-aggregate-write-all : tie.Need-slice-aggregate-write-all Inv-loop μ-loop
+slice-aggregate-write-all c = search needs
+
+write-all-requires : tie.Need-write-all-requires Inv-loop μ-loop
+write-all-requires c κs = search needs
+
 returns : tie.Need-returns Inv-loop μ-loop
 returns c = search needs
 
@@ -43,4 +49,6 @@ write-hex-spec =
     add-i
     loop-less
     loop-again
+    slice-aggregate-write-all
+    write-all-requires
     returns)
