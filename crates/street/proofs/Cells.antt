@@ -1,13 +1,13 @@
 -- The six cells of an order, spelt out: with one put in or cut out they begin with the order's list after that, and a label's
 -- first cell says where it stands in the list.
-use mathlib.Core.Path.{_≡_, refl, sym, ap, ap₂, _∙_}
+use mathlib.Core.Path.{_≡_, refl, sym, ap, _∙_}
 use mathlib.Core.Bool.{Bool, true, false}
 use mathlib.Core.List.{List, [], _∷_, _++_}
 use Prim.Native.Nat.{ℕ, zero, suc, _+_, _-_, _≤_, _<_}
 use native.Mathlib.Nat.{not-suc-le-zero, le-of-suc-le-suc}
 use native.Mathlib.Numerals.{add-one}
 use native.Mathlib.Omega.{arith}
-use lib.Dec.{eqb, ltb}
+use lib.Dec.{eqb}
 use lib.ListN.{length, getD, take, length-append}
 use lib.Seq.{take-append-le, take-take, length-take-le}
 use Rattle.rules.specs.Basic.{pick, tabulate, put, cut}
@@ -26,33 +26,8 @@ spelt (x ∷ l) = ap (λ (r : List ℕ). x ∷ r) (spelt l)
 abbrev pub six : List ℕ → List ℕ
 six l = tabulate (λ i. getD l i 0) 6
 
--- what stands in a cell after a cut: its own before the cut, and from there on what the next one held
-abbrev pub moved : ℕ → List ℕ → ℕ → ℕ
-moved k l i = pick (ltb k (suc i)) (getD l (suc i) 0) (getD l i 0)
-
-six-moved : (l : List ℕ) (k : ℕ) → k < capacity → tabulate (moved k l) 5 ≡ cut k (six l)
-unfolding pick tabulate cut
-six-moved l zero h = refl
-six-moved l (suc zero) h = refl
-six-moved l (suc (suc zero)) h = refl
-six-moved l (suc (suc (suc zero))) h = refl
-six-moved l (suc (suc (suc (suc zero)))) h = refl
-six-moved l (suc (suc (suc (suc (suc zero))))) h = refl
-six-moved l (suc (suc (suc (suc (suc (suc k)))))) h = absurd (omega arith)
-
-module _ (l : List ℕ) (long : length l ≡ capacity) where
-  six-cells : six l ≡ l
-  six-cells = ap (tabulate (λ i. getD l i 0)) (sym long) ∙ spelt l
-
-  pub six-put : (k j x : ℕ) → k ≡ j → take capacity (put j x (six l)) ≡ take capacity (put k x l)
-  six-put k j x e = ap₂ (λ (i : ℕ) (m : List ℕ). take capacity (put i x m)) (sym e) six-cells
-
-  pub six-cut : (k : ℕ) → k < capacity → {a b c d e : ℕ}
-      → a ≡ moved k l 0 → b ≡ moved k l 1 → c ≡ moved k l 2 → d ≡ moved k l 3 → e ≡ moved k l 4
-      → a ∷ b ∷ c ∷ d ∷ e ∷ 0 ∷ [] ≡ cut k l ++ (0 ∷ [])
-  unfolding tabulate
-  six-cut k h p q r s t =
-      (λ i. p i ∷ q i ∷ r i ∷ s i ∷ t i ∷ 0 ∷ []) ∙ ap (λ (m : List ℕ). m ++ (0 ∷ [])) (six-moved l k h ∙ ap (cut k) six-cells)
+pub six-cells : (l : List ℕ) → length l ≡ capacity → six l ≡ l
+six-cells l long = ap (tabulate (λ i. getD l i 0)) (sym long) ∙ spelt l
 
 -- ---- the first of them
 

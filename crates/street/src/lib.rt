@@ -2,12 +2,13 @@
 use rules::Limits;
 ghost use mathlib.Core.Path.{_≡_};
 ghost use mathlib.Core.List.{[], _∷_, _++_};
-ghost use Prim.Native.Nat.{suc, _≤_, _<_};
+ghost use Prim.Native.Nat.{suc, _^_, _≤_, _<_};
 ghost use lib.ListN.{length, getD, take};
 ghost use Rattle.rules.specs.Basic.{pick, put, cut};
 ghost use Rattle.rules.specs.Row.{before};
 ghost use Rattle.rules.specs.Street.{limits, blankLimits};
 ghost use Rattle.street.specs.Order.{capacity, listed, Sound, Emptied, Inserted, Found, Removed};
+ghost use Rattle.street.specs.Cells.{cells, Numbered};
 
 // The most nets that can be open: the tracks of two streets of three.
 pub const CAPACITY: usize = 6;
@@ -69,28 +70,18 @@ impl Order {
         ensures { λ r. ⌜ r ≡ getD (listed self) k 0 ⌝ }
     {
         let nets = self.nets;
-        nets[k]
+        (number_of(nets) / power(8 * k) % 256) as u8
     }
 }
 
-// Cells with x put behind k others; what the last one held is lost. With no loop, so that an order stays in a register.
+// Cells with x put behind k others; what the last one held is lost. As one number, so that an order stays in a register.
 fn with(nets: [u8; CAPACITY], k: usize, x: u8) -> [u8; CAPACITY]
     requires { ⌜ (length nets ≡ capacity) × (k < capacity) ⌝ }
     ensures { λ r. ⌜ r ≡ take capacity (put k x nets) ⌝ }
 {
-    let a = nets[0];
-    let b = nets[1];
-    let c = nets[2];
-    let d = nets[3];
-    let e = nets[4];
-    match k {
-        0 => [x, a, b, c, d, e],
-        1 => [a, x, b, c, d, e],
-        2 => [a, b, x, c, d, e],
-        3 => [a, b, c, x, d, e],
-        4 => [a, b, c, d, x, e],
-        _ => [a, b, c, d, e, x],
-    }
+    let o = number_of(nets);
+    let unit = power(8 * k);
+    cells_of(o % unit + (wide(x) + 256 * (o / unit)) * unit)
 }
 
 // Cells without the one behind k others, and a free one at the end.
@@ -98,20 +89,51 @@ fn without(nets: [u8; CAPACITY], k: usize) -> [u8; CAPACITY]
     requires { ⌜ (length nets ≡ capacity) × (k < capacity) ⌝ }
     ensures { λ r. ⌜ r ≡ cut k nets ++ (0 ∷ []) ⌝ }
 {
-    let a = nets[0];
-    let b = nets[1];
-    let c = nets[2];
-    let d = nets[3];
-    let e = nets[4];
-    let f = nets[5];
+    let o = number_of(nets);
+    let unit = power(8 * k);
+    cells_of(o % unit + o / 256 / unit * unit)
+}
+
+// Cells as one number, the first lowest.
+fn number_of(nets: [u8; CAPACITY]) -> u64
+    requires { ⌜ length nets ≡ capacity ⌝ }
+    ensures { λ r. ⌜ Numbered nets r ⌝ }
+{
+    let low = wide(nets[0])
+        + 256 * wide(nets[1])
+        + 65536 * wide(nets[2])
+        + 16777216 * wide(nets[3]);
+    let high = wide(nets[4]) + 256 * wide(nets[5]);
+    low + 4294967296 * high
+}
+
+// The cells of a number, the first lowest; what is above them is lost.
+fn cells_of(o: u64) -> [u8; CAPACITY]
+    ensures { λ r. ⌜ r ≡ cells capacity o ⌝ }
+{
     [
-        kept(k < 1, a, b),
-        kept(k < 2, b, c),
-        kept(k < 3, c, d),
-        kept(k < 4, d, e),
-        kept(k < 5, e, f),
-        0,
+        (o % 256) as u8,
+        (o / 256 % 256) as u8,
+        (o / 65536 % 256) as u8,
+        (o / 16777216 % 256) as u8,
+        (o / 4294967296 % 256) as u8,
+        (o / 1099511627776 % 256) as u8,
     ]
+}
+
+// Two to the n.
+fn power(n: usize) -> u64
+    requires { ⌜ n < 64 ⌝ }
+    ensures { λ r. ⌜ r ≡ 2 ^ n ⌝ }
+{
+    1u64 << n
+}
+
+// A label as a number of 64 bits.
+fn wide(x: u8) -> u64
+    ensures { λ r. ⌜ (r ≡ x) × (r < 256) ⌝ }
+{
+    x as u64
 }
 
 // Place i, where the label is there, and else the later place p.
@@ -122,16 +144,6 @@ fn nearer(here: bool, i: usize, p: usize) -> usize
         return i;
     }
     p
-}
-
-// What a cell holds after a cut: x as before, or y of the next cell, where x or one before it is gone.
-fn kept(gone: bool, x: u8, y: u8) -> u8
-    ensures { λ r. ⌜ r ≡ pick gone y x ⌝ }
-{
-    if gone {
-        return y;
-    }
-    x
 }
 
 // Which of the three limits a wire with `above` wires over it, of b at the node, breaks.

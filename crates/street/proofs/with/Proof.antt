@@ -1,62 +1,77 @@
--- `street::with` meets its contract: each arm's cells are those of the definition, by `six-put`. Assumes nothing.
+-- `street::with` meets its contract: the sum is the number of the cells with x put in, by `cells-put`. Assumes nothing.
+use mathlib.Core.Path.{ap, _∙_}
+use Prim.Native.Nat.{ℕ}
 use native.Mathlib.Omega.{arith}
-use Rattle.rules.specs.Basic.{tabulate, put}
-use Rattle.street.proofs.Cells.{six-put}
+use lib.ListN.{take}
+use lib.Pow.{pow-pos}
+use Rattle.rules.specs.Basic.{put}
+use Rattle.street.proofs.CellNumbers.{cells-put, put-lt}
+use Rattle.street.specs.Order.{capacity}
 use borrow.Author.Needs.{needs}
 use Rattle.street.proofs.with.Statement.{statement}
 use Rattle.street.proofs.with.Tie as tie
 
-array-read-a : tie.Need-array-read-a
-array-read-a c = search needs
+number-of-requires : tie.Need-number-of-requires
+number-of-requires c κs = search needs
 
-array-read-b : tie.Need-array-read-b
-array-read-b c = search needs
+mul-power : tie.Need-mul-power
+mul-power c = search needs
 
-array-read-c : tie.Need-array-read-c
-array-read-c c = search needs
+power-requires : tie.Need-power-requires
+power-requires c κs = search needs
 
-array-read-d : tie.Need-array-read-d
-array-read-d c = search needs
+rem-cells-of : tie.Need-rem-cells-of
+rem-cells-of c = rw (c .power .ensures) (pow-pos _)
 
-array-read-e : tie.Need-array-read-e
-array-read-e c = search needs
+wide-requires : tie.Need-wide-requires
+wide-requires c κs = search needs
+
+div-cells-of : tie.Need-div-cells-of
+div-cells-of c = rw (c .before .power .ensures) (pow-pos _)
+
+add-cells-of : tie.Need-add-cells-of
+add-cells-of c =
+    let s = c .before .before .before in
+    let o = c .before .before .number-of in
+    omega (arith, put-lt (o .ensures) (s .args .k) (c .before .power .ensures) (omega arith) (c .wide .ensures .1) capacity (s .pre .0))
+
+mul-cells-of : tie.Need-mul-cells-of
+mul-cells-of c = omega (arith, add-cells-of c)
+
+add-cells-of-2 : tie.Need-add-cells-of-2
+add-cells-of-2 c =
+    let s = c .before .before .before in
+    let o = c .before .before .number-of in
+    omega (arith, put-lt (o .ensures) (s .args .k) (c .before .power .ensures) (omega arith) (c .wide .ensures .1) capacity (s .pre .0))
+
+mul-cells-of-2 : tie.Need-mul-cells-of-2
+mul-cells-of-2 c = omega (arith, add-cells-of-2 c)
+
+cells-of-requires : tie.Need-cells-of-requires
+cells-of-requires c κs = search needs
 
 returns : tie.Need-returns
-unfolding put tabulate
-returns c = let g = c .before .args in six-put (g .t1) (c .before .pre .0) (g .k) 0 (g .x) (c .match .keys1)
-
-returns-2 : tie.Need-returns-2
-unfolding put tabulate
-returns-2 c = let g = c .before .args in six-put (g .t1) (c .before .pre .0) (g .k) 1 (g .x) (c .match .keys2)
-
-returns-3 : tie.Need-returns-3
-unfolding put tabulate
-returns-3 c = let g = c .before .args in six-put (g .t1) (c .before .pre .0) (g .k) 2 (g .x) (c .match .keys3)
-
-returns-4 : tie.Need-returns-4
-unfolding put tabulate
-returns-4 c = let g = c .before .args in six-put (g .t1) (c .before .pre .0) (g .k) 3 (g .x) (c .match .keys4)
-
-returns-5 : tie.Need-returns-5
-unfolding put tabulate
-returns-5 c = let g = c .before .args in six-put (g .t1) (c .before .pre .0) (g .k) 4 (g .x) (c .match .keys5)
-
-returns-6 : tie.Need-returns-6
-unfolding put tabulate
-returns-6 c = let g = c .before .args in six-put (g .t1) (c .before .pre .0) (g .k) 5 (g .x) (omega (arith, c .match .rest, c .before .pre .1))
+returns c =
+    let w = c .before in
+    let s = w .before .before .before in
+    let o = w .before .before .number-of in
+    c .cells-of .ensures
+    ∙ cells-put (o .ensures) (s .args .k) (w .before .power .ensures) (omega arith) (w .wide .ensures .1) capacity (omega arith)
+    ∙ ap (λ (x : ℕ). take capacity (put (s .args .k) x (s .args .nets))) (w .wide .ensures .0)
 
 pub with-spec : {M : Type 1} → statement M
 with-spec =
     tie.close
     (tie.spec
-    array-read-a
-    array-read-b
-    array-read-c
-    array-read-d
-    array-read-e
-    returns
-    returns-2
-    returns-3
-    returns-4
-    returns-5
-    returns-6)
+    number-of-requires
+    mul-power
+    power-requires
+    rem-cells-of
+    wide-requires
+    div-cells-of
+    mul-cells-of
+    add-cells-of
+    mul-cells-of-2
+    add-cells-of-2
+    cells-of-requires
+    returns)

@@ -1,65 +1,56 @@
--- `street::without` meets its contract: the cells that are kept are those of the definition, by `six-cut`. Assumes nothing.
+-- `street::without` meets its contract: the sum is the number of the cells without that one, by `cells-cut`. Assumes nothing.
+use mathlib.Core.Path.{_∙_}
+use native.Mathlib.Omega.{arith}
+use lib.Pow.{pow-pos}
+use Rattle.street.proofs.CellNumbers.{cells-cut, cut-lt}
+use Rattle.street.specs.Order.{capacity}
 use borrow.Author.Needs.{needs}
-use Rattle.street.proofs.Cells.{six-cut}
 use Rattle.street.proofs.without.Statement.{statement}
 use Rattle.street.proofs.without.Tie as tie
 
-array-read-a : tie.Need-array-read-a
-array-read-a c = search needs
+number-of-requires : tie.Need-number-of-requires
+number-of-requires c κs = search needs
 
-array-read-b : tie.Need-array-read-b
-array-read-b c = search needs
+mul-power : tie.Need-mul-power
+mul-power c = search needs
 
-array-read-c : tie.Need-array-read-c
-array-read-c c = search needs
+power-requires : tie.Need-power-requires
+power-requires c κs = search needs
 
-array-read-d : tie.Need-array-read-d
-array-read-d c = search needs
+rem-cells-of : tie.Need-rem-cells-of
+rem-cells-of c = rw (c .power .ensures) (pow-pos _)
 
-array-read-e : tie.Need-array-read-e
-array-read-e c = search needs
+div-cells-of : tie.Need-div-cells-of
+div-cells-of c = rw (c .power .ensures) (pow-pos _)
 
-array-read-f : tie.Need-array-read-f
-array-read-f c = search needs
+add-cells-of : tie.Need-add-cells-of
+add-cells-of c =
+    let s = c .before .before in
+    omega (arith, cut-lt (c .before .number-of .ensures) (s .args .k) (c .power .ensures) (omega arith) capacity (s .pre .0))
 
-kept-requires : tie.Need-kept-requires
-kept-requires c κs = search needs
+mul-cells-of : tie.Need-mul-cells-of
+mul-cells-of c = omega (arith, add-cells-of c)
 
-kept-requires-2 : tie.Need-kept-requires-2
-kept-requires-2 c κs = search needs
-
-kept-requires-3 : tie.Need-kept-requires-3
-kept-requires-3 c κs = search needs
-
-kept-requires-4 : tie.Need-kept-requires-4
-kept-requires-4 c κs = search needs
-
-kept-requires-5 : tie.Need-kept-requires-5
-kept-requires-5 c κs = search needs
+cells-of-requires : tie.Need-cells-of-requires
+cells-of-requires c κs = search needs
 
 returns : tie.Need-returns
 returns c =
-    let fourth = c .before in
-    let third = fourth .before in
-    let second = third .before in
-    let first = second .before in
-    let s = first .before in
-    six-cut (s .args .t1) (s .pre .0) (s .args .k) (s .pre .1) (first .kept .ensures) (second .kept2 .ensures) (third .kept3 .ensures)
-    (fourth .kept4 .ensures) (c .kept5 .ensures)
+    let w = c .before in
+    let s = w .before .before in
+    c .cells-of .ensures
+    ∙ cells-cut (w .before .number-of .ensures) (s .args .k) (w .power .ensures) (omega arith) capacity (s .pre .0)
 
 pub without-spec : {M : Type 1} → statement M
 without-spec =
     tie.close
     (tie.spec
-    array-read-a
-    array-read-b
-    array-read-c
-    array-read-d
-    array-read-e
-    array-read-f
-    kept-requires
-    kept-requires-2
-    kept-requires-3
-    kept-requires-4
-    kept-requires-5
+    number-of-requires
+    mul-power
+    power-requires
+    rem-cells-of
+    div-cells-of
+    mul-cells-of
+    add-cells-of
+    cells-of-requires
     returns)
