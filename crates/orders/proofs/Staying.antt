@@ -57,7 +57,16 @@ module _ (t : Stop) (s : List ℕ) (g r : ℕ) (sound : Sound t) (touched : 0 < 
   unfolding keep
   elsewhere q h x e k = let z : hopAt t r q ≡ none = hops-there q ∙ rw (ne-eqb q place h) in none-some z e
 
-  -- the position that leads on is the net's one, and the least
+  -- the position that leads on is the net's one
+  pub leads-at : (o : Onward t s g r) → o .leads .at ≡ atOf (t .age) (t .count) r
+  unfolding place
+  leads-at o = go (eqb (o .leads .at) place) refl
+    where
+      go : (v : Bool) → eqb (o .leads .at) place ≡ v → o .leads .at ≡ place
+      go true d = eqb-true (o .leads .at) place d
+      go false d = absurd (elsewhere (o .leads .at) (eqb-false (o .leads .at) place d) (o .next) (o .leads .lands) (o .kept))
+
+  -- and the least
   pub stays : (o : Onward t s g r) (p x : ℕ) → p ≡ o .leads .at → x ≡ after (t .kind) (t .age) (t .count) r → Least t s g r p x
   unfolding place next
   stays o p x ep ex = at-place (eqb p place) refl

@@ -1,4 +1,4 @@
--- What one node of the last pass does: a new net enters at the least place whose rank is marked, a touched one stands where the order has it, and a blank leaves the
+-- What one node of the last pass does: a new net enters at the least place whose rank is marked, a touched one stands where the order and the rank have it, and a blank leaves the
 -- order as it is.
 use mathlib.Core.Path.{_≡_, refl, sym, ap, _∙_}
 use mathlib.Core.List.{List}
@@ -11,11 +11,11 @@ use Rattle.rules.specs.Sheet.{kindIn}
 use Rattle.street.specs.declared.Order.{Order}
 use Rattle.street.specs.Order.{capacity, listed, Sound}
 use Rattle.steps.specs.declared.rank.Stop.{Stop}
-use Rattle.steps.specs.Ranks.{lessOf}
+use Rattle.steps.specs.Ranks.{atOf, lessOf}
 use Rattle.steps.specs.Sets.{marked}
 use Rattle.orders.specs.Passes.{Entry}
 use Rattle.steps.specs.Leading.{Least}
-use Rattle.orders.proofs.Staying.{after-touch, after-end, stays, rests}
+use Rattle.orders.proofs.Staying.{after-touch, after-end, leads-at, stays, rests}
 use Rattle.orders.proofs.Entering.{enters}
 use Rattle.router.specs.Walk.{Standing, Stood}
 
@@ -43,6 +43,13 @@ module _ (held : Order) (t : Stop) (work : List ℕ) (g r x : ℕ) (w : Standing
 
     pub touched-open : before x (listed held) < held .count
     touched-open = omega (arith, stands .0, stands .1)
+
+    -- the rank has the net where the order has it
+    pub located-found : {p : ℕ} → p ≡ atOf (t .age) (t .count) r → p ≡ before x (listed held)
+    located-found e = e ∙ sym (leads-at t work g r (w .stop) touched known (w .rank) (w .onward)) ∙ stands .0
+
+    pub located-within : {p : ℕ} → p ≡ atOf (t .age) (t .count) r → p < held .count
+    located-within e = omega (arith, located-found e, touched-open)
 
     module _ (p : ℕ) (found : p ≡ before x (listed held)) where
       at-found : p ≡ w .onward .leads .at

@@ -87,8 +87,8 @@ fn stand(held: Order, r: usize, stop: Stop, x: u8, work: &[u8], g: usize, tables
             }
         }
         2 => {
-            let place = held.find(x);
             let left = locate(tables, a, b, r);
+            let place = left.at;
             let rank = left.rest;
             let next = held.remove(place);
             Turn {

@@ -2,7 +2,7 @@
 use native.Mathlib.Omega.{arith}
 use borrow.Author.Needs.{needs}
 use Rattle.orders.proofs.Entering.{enters-somewhere, enters-room, enters-ranks}
-use Rattle.router.proofs.Turning.{entered-room, entered-stood, touched-open, met-stood, ended-stood, rested-stood}
+use Rattle.router.proofs.Turning.{entered-room, entered-stood, touched-open, located-found, located-within, met-stood, ended-stood, rested-stood}
 use Rattle.router.proofs.walk.stand.Statement.{statement}
 use Rattle.router.proofs.walk.stand.Tie as tie
 
@@ -47,31 +47,26 @@ find-requires c κs =
 cast-t22 : tie.Need-cast-t22
 cast-t22 c = search needs
 
-find-requires-2 : tie.Need-find-requires-2
-find-requires-2 c κs =
-    let g = c .before .before .before .before .before in
-    let a = g .args in (
-      g .pre .0 .sound,
-      touched-open (a .held) (a .stop) (a .work .now) (a .g) (a .r) (a .x) (g .pre .0) (omega (arith, c .match .keys3)) (omega (arith, c .match .keys3)),
-    )
-
 locate-requires : tie.Need-locate-requires
 locate-requires c κs =
-    let g = c .before .before .before .before .before .before in
+    let g = c .before .before .before .before .before in
     let w = g .pre .0 in
-    (g .pre .1, w .stop .touched (omega (arith, c .before .match .keys3)) (omega (arith, c .before .match .keys3)), w .stop .few, w .rank)
+    (g .pre .1, w .stop .touched (omega (arith, c .match .keys3)) (omega (arith, c .match .keys3)), w .stop .few, w .rank)
 
 remove-requires : tie.Need-remove-requires
 remove-requires c κs =
-    let g = c .before .before .before .before .before .before .before in
-    let a = g .args in (
-      g .pre .0 .sound,
-      omega
-          (arith, c .before .find2 .ensures .place, touched-open (a .held) (a .stop) (a .work .now) (a .g) (a .r) (a .x) (g .pre .0) (omega (arith, c .before .before .match .keys3)) (omega (arith, c .before .before .match .keys3))),
-    )
+    let g = c .before .before .before .before .before .before in
+    let a = g .args in
+    let m = c .before .match .keys3 in
+    (g .pre .0 .sound, located-within (a .held) (a .stop) (a .work .now) (a .g) (a .r) (a .x) (g .pre .0) (omega (arith, m)) (omega (arith, m)) (c .locate .ensures .at))
 
 cast-t23 : tie.Need-cast-t23
-cast-t23 c = search needs
+cast-t23 c =
+    let g = c .before .before .before .before .before .before .before in
+    let a = g .args in
+    let m = c .before .before .match .keys3 in
+    let p = located-within (a .held) (a .stop) (a .work .now) (a .g) (a .r) (a .x) (g .pre .0) (omega (arith, m)) (omega (arith, m)) (c .before .locate .ensures .at) in
+    omega (arith, p, g .pre .0 .sound .few)
 
 fewest-above-requires : tie.Need-fewest-above-requires
 fewest-above-requires c κs = tt
@@ -93,12 +88,12 @@ returns-2 c =
 
 returns-3 : tie.Need-returns-3
 returns-3 c =
-    let g = c .before .before .before .before .before .before .before .before in
+    let g = c .before .before .before .before .before .before .before in
     let a = g .args in
-    let f = c .before .before .find2 in
     let l = c .before .locate in
-    let m = c .before .before .before .match .keys3 in
-    ended-stood (a .held) (a .stop) (a .work .now) (a .g) (a .r) (a .x) (g .pre .0) (omega (arith, m)) (omega (arith, m)) (f .result) (f .ensures .place)
+    let m = c .before .before .match .keys3 in
+    let p = located-found (a .held) (a .stop) (a .work .now) (a .g) (a .r) (a .x) (g .pre .0) (omega (arith, m)) (omega (arith, m)) (l .ensures .at) in
+    ended-stood (a .held) (a .stop) (a .work .now) (a .g) (a .r) (a .x) (g .pre .0) (omega (arith, m)) (omega (arith, m)) (l .result .at) p
     m (l .result .rest) (l .ensures .rest) (c .remove .result) (c .remove .ensures .sound) (c .remove .ensures .list)
 
 returns-4 : tie.Need-returns-4
@@ -119,7 +114,6 @@ stand-spec =
     cast-t21
     find-requires
     cast-t22
-    find-requires-2
     locate-requires
     remove-requires
     cast-t23
