@@ -12,12 +12,15 @@ use Rattle.rules.specs.declared.Fault.{Fault}
 use Rattle.rules.specs.declared.Drawing.{Drawing}
 use Rattle.rules.specs.Basic.{pick, keep, orElse, settle}
 use Rattle.rules.specs.Bits.{bytes}
+use Rattle.rules.specs.Sheet.{upperOf, lowerOf}
 use Rattle.rules.specs.Film.{Rec, recBits, records, filmBytes}
 use Rattle.rules.specs.Judgement.{judge}
 use Rattle.rules.specs.Answers.{written, drawing, Reordered, FilmAfter}
 use Rattle.rules.proofs.Fields.{length-bytes}
+use Rattle.sheet.specs.Fields.{Faultless}
+use Rattle.sheet.proofs.Walks.{Whole}
 use Rattle.film.specs.Stamps.{stamp, laid}
-use Rattle.film.specs.Walks.{pitch, Drawn}
+use Rattle.film.specs.Walks.{pitch, recordsIn, Drawn}
 use Rattle.film.proofs.Sweeps.{recBits-length, stamp-length}
 
 five : (r : Rec) → length (bytes (recBits r)) ≡ 5
@@ -69,6 +72,16 @@ laid-written rs film h =
 pub reordered-same {ℓ} : {A : Type ℓ} (l : List A) → Reordered l l
 reordered-same [] = Reordered.nil
 reordered-same (x ∷ l) = Reordered.cons (reordered-same l)
+
+-- ---- a sheet's nodes
+
+module _ (s : List ℕ) {fields : List ℕ} {n ku : ℕ} (w : Whole s fields n) (e : ku ≡ upperOf s) where
+  pub nodes-clear : (kl : ℕ) × Faultless ku kl (take n fields)
+  nodes-clear = (lowerOf s, rw e (w .clear))
+
+  pub nodes-records : recordsIn ku (take n fields) ≡ records pitch s
+  unfolding records
+  nodes-records = rw (e, w .entries)
 
 -- ---- the answers
 

@@ -1,24 +1,22 @@
--- The walk over a sheet without a fault: each node is due in its turn, and what is drawn from it on leads to all records of the sheet.
+-- The walk over nodes without a fault: each is due in its turn, and what is drawn from it on leads to all records of the nodes.
 use mathlib.Core.Path.{_≡_, refl, sym, ap, ap₂, _∙_}
 use mathlib.Core.List.{List, [], _∷_, _++_, append-assoc}
-use mathlib.Core.Option.{none}
 use Prim.Native.Nat.{ℕ, zero, suc, _+_, _-_, _*_, _≤_, _<_}
 use native.Mathlib.Nat.{add-zero}
 use native.Mathlib.Numerals.{add-one}
 use native.Mathlib.Omega.{arith}
-use lib.ListN.{length, drop, length-append, length-drop}
+use lib.ListN.{length, getD, drop, length-append, length-drop, length-map}
 use Rattle.rules.specs.Row.{Kind, B, M, E, N}
 use Rattle.rules.specs.Street.{last, counted}
-use Rattle.rules.specs.Sheet.{kindIn, Entry, entry, upperOf, lowerOf, countOf, entryAt, entriesOf, begun}
+use Rattle.rules.specs.Sheet.{kindIn, Entry, entry, begun}
 use Rattle.rules.specs.Judgement.{left}
-use Rattle.rules.specs.Film.{upper, upperAt, Rec, Wire, Sweep, gap, marks, draw, records}
+use Rattle.rules.specs.Film.{upper, upperAt, Rec, Wire, Sweep, gap, marks, draw}
 use Rattle.rules.proofs.Fits.{FitsAt}
 use Rattle.rules.proofs.Levels.{both-streets}
 use Rattle.rules.proofs.Legal.{Legal, then}
+use Rattle.sheet.specs.Fields.{entryIn, entriesIn, Faultless}
 use Rattle.sheet.specs.Told.{aboveAt}
-use Rattle.sheet.proofs.Heads.{Headed}
-use Rattle.sheet.proofs.Walks.{Faultless, legal-few}
-use Rattle.rules.proofs.SheetFields.{length-entriesOf}
+use Rattle.sheet.proofs.Walks.{faultless-legal, legal-few}
 use Rattle.sheet.proofs.Scans.{entries-from, entries-end}
 use Rattle.film.specs.declared.wires.Wires.{Wires}
 use Rattle.film.specs.declared.moves.Pen.{Pen}
@@ -28,7 +26,7 @@ use Rattle.film.specs.Stamps.{each, laid}
 use Rattle.film.specs.Wires.{listed, Sound, Emptied}
 use Rattle.film.specs.Moves.{aim, Swept}
 use Rattle.film.specs.Nodes.{kindOf, own, shown, going, Joinable, Joined, Open, Stubbed, Ended, Skipped}
-use Rattle.film.specs.Walks.{pitch, NodeOf, Due, crossing, strokes, Visited, Lain}
+use Rattle.film.specs.Walks.{pitch, NodeOf, Due, crossing, strokes, Visited, recordsIn, Lain}
 use Rattle.film.proofs.Sweeps.{laid-append, laid-length}
 use Rattle.film.proofs.Joints.{kind-goes-on, kind-ends, kind-blank, goes-on-open, ends-open, joined-goes-on, joined-ends, joined-blank}
 
@@ -145,10 +143,6 @@ pub above-of : {e : Entry} {f a m : ℕ} → e ≡ entry f a → aboveAt e ≤ m
 unfolding aboveAt
 above-of p h = rw p at h
 
--- the tracks as they were read
-pub node-of : {s : List ℕ} {i ku ku′ : ℕ} {n : Node} → ku ≡ ku′ → NodeOf s i ku n → NodeOf s i ku′ n
-node-of e t = rw (← e) t
-
 -- the records from an entry on
 draw-cons : (ku i b : ℕ) (ws : List Wire) (w : Walk) (n : Node) (es : List Entry) → listed (w .pen .wires) ≡ ws → w .begun ≡ b → n .upper ≡ upperAt (kindOf n) ku (n .above)
     → draw pitch ku i b ws (entry (n .kind) (n .above) ∷ es)
@@ -161,29 +155,28 @@ draw-cons ku i b ws w n es p q u =
 
 -- ---- the walk
 
-module _ (s film₀ : List ℕ) where
+module _ {ku kl : ℕ} (fs film₀ : List ℕ) (d : Faultless ku kl fs) where
   -- what is drawn from node i on
   abbrev ahead : ℕ → Walk → List Rec
-  ahead i w = draw pitch (upperOf s) i (w .begun) (listed (w .pen .wires)) (drop i (entriesOf s))
+  ahead i w = draw pitch ku i (w .begun) (listed (w .pen .wires)) (drop i (entriesIn fs))
 
   -- before node i: the wires are legal for the entries from there on, and what is drawn from there on leads to all records
   pub record Walking (i : ℕ) (w : Walk) (film : List ℕ) : Type 0 where
-    pub within : i ≤ countOf s
+    pub within : i ≤ length fs
     pub sound : Sound (w .pen .wires)
-    pub legal : Legal (upperOf s) (lowerOf s) (w .pen .wires .count) (drop i (entriesOf s))
+    pub legal : Legal ku kl (w .pen .wires .count) (drop i (entriesIn fs))
     pub few : 2 * w .begun ≤ i + w .pen .wires .count
     pub column : w .pen .column ≡ suc (pitch * (i - 1))
     pub room : w .pen .drawn ≤ each * i
-    pub count : w .pen .drawn + length (ahead i w) ≡ length (records pitch s)
-    pub bytes : laid film (w .pen .drawn) (ahead i w) ≡ laid film₀ 0 (records pitch s)
+    pub count : w .pen .drawn + length (ahead i w) ≡ length (recordsIn ku fs)
+    pub bytes : laid film (w .pen .drawn) (ahead i w) ≡ laid film₀ 0 (recordsIn ku fs)
 
-  pub walk-start : (o : Wires) → Faultless s → Emptied o → Walking 0 (record { pen = record { wires = o; column = 1; drawn = 0 }; begun = 0 }) film₀
-  unfolding records
-  walk-start o h e =
+  pub walk-start : (o : Wires) → Emptied o → Walking 0 (record { pen = record { wires = o; column = 1; drawn = 0 }; begun = 0 }) film₀
+  walk-start o e =
       record {
         within = omega arith;
         sound = e .sound;
-        legal = rw (e .count) (h .legal);
+        legal = rw (e .count) (faultless-legal d);
         few = omega arith;
         column = refl;
         room = omega arith;
@@ -191,14 +184,14 @@ module _ (s film₀ : List ℕ) where
         bytes = rw (e .list);
       }
 
-  module _ (i : ℕ) (w : Walk) (film : List ℕ) (m : Walking i w film) (h : i < countOf s) where
+  module _ (i : ℕ) (w : Walk) (film : List ℕ) (m : Walking i w film) (h : i < length fs) where
     -- at most three wires stand above the node's
-    pub walk-above : Headed s → aboveAt (entryAt s i) ≤ 3
-    walk-above d = omega (arith, legal-above (rw (entries-from s i h) at (m .legal)), d .upper)
+    pub walk-above : aboveAt (entryIn (getD fs i 0)) ≤ 3
+    walk-above = omega (arith, legal-above (rw (entries-from fs i h) at (m .legal)), d .upper)
 
-    module _ (n : Node) (t : NodeOf s i (upperOf s) n) (d : Headed s) where
-      here : Allowed (upperOf s) (lowerOf s) (w .pen .wires .count) (n .kind) (n .above) (drop (suc i) (entriesOf s))
-      here = allowed (rw (entries-from s i h, t .is) at (m .legal))
+    module _ (n : Node) (t : NodeOf (entryIn (getD fs i 0)) ku n) where
+      here : Allowed ku kl (w .pen .wires .count) (n .kind) (n .above) (drop (suc i) (entriesIn fs))
+      here = allowed (rw (entries-from fs i h, t .is) at (m .legal))
 
       pub walk-due : Due w n i
       unfolding begun left counted
@@ -211,24 +204,24 @@ module _ (s film₀ : List ℕ) where
             few = omega (arith, f .sum, d .upper, d .lower);
             fitting = record { upper = omega (arith, t .upper, u .0, d .upper); deep = omega (arith, t .upper, u .1, d .lower) };
             small = go (kindOf n) (legal-few (here .rest));
-            near = omega (arith, d .high);
+            near = omega (arith, d .few);
             column = m .column;
             room = m .room;
           }
         where
-          go : (k : Kind) → left k (w .pen .wires .count) ≤ length (drop (suc i) (entriesOf s)) → begun k (w .begun) ≤ 256
-          go B l = omega (arith, length-drop (suc i) (entriesOf s), length-entriesOf s, m .few, d .high)
-          go M l = omega (arith, length-drop (suc i) (entriesOf s), length-entriesOf s, m .few, d .high)
-          go E l = omega (arith, length-drop (suc i) (entriesOf s), length-entriesOf s, m .few, d .high)
-          go N l = omega (arith, length-drop (suc i) (entriesOf s), length-entriesOf s, m .few, d .high)
+          go : (k : Kind) → left k (w .pen .wires .count) ≤ length (drop (suc i) (entriesIn fs)) → begun k (w .begun) ≤ 256
+          go B l = omega (arith, length-drop (suc i) (entriesIn fs), length-map fs entryIn, m .few, d .few)
+          go M l = omega (arith, length-drop (suc i) (entriesIn fs), length-map fs entryIn, m .few, d .few)
+          go E l = omega (arith, length-drop (suc i) (entriesIn fs), length-map fs entryIn, m .few, d .few)
+          go N l = omega (arith, length-drop (suc i) (entriesIn fs), length-map fs entryIn, m .few, d .few)
 
       module _ (r : Walk) (after : List ℕ) (v : Visited w n i film r after) where
         -- what is drawn from node i on is drawn for it, and then from the next on
         parts : ahead i w ≡ strokes w n i ++ ahead (suc i) r
         parts =
-            ap (draw pitch (upperOf s) i (w .begun) (listed (w .pen .wires))) (entries-from s i h ∙ ap (λ (e : Entry). e ∷ drop (suc i) (entriesOf s)) (t .is))
-            ∙ draw-cons (upperOf s) i (w .begun) (listed (w .pen .wires)) w n (drop (suc i) (entriesOf s)) refl refl (t .upper)
-            ∙ ap₂ (λ (b : ℕ) (ws : List Wire). strokes w n i ++ draw pitch (upperOf s) (suc i) b ws (drop (suc i) (entriesOf s))) (sym (v .nets)) (sym (v .list))
+            ap (draw pitch ku i (w .begun) (listed (w .pen .wires))) (entries-from fs i h ∙ ap (λ (e : Entry). e ∷ drop (suc i) (entriesIn fs)) (t .is))
+            ∙ draw-cons ku i (w .begun) (listed (w .pen .wires)) w n (drop (suc i) (entriesIn fs)) refl refl (t .upper)
+            ∙ ap₂ (λ (b : ℕ) (ws : List Wire). strokes w n i ++ draw pitch ku (suc i) b ws (drop (suc i) (entriesIn fs))) (sym (v .nets)) (sym (v .list))
 
         pub walk-step : Walking (i + 1) r after
         unfolding begun left last counted
@@ -258,13 +251,12 @@ module _ (s film₀ : List ℕ) where
 
   pub walk-kept : (i : ℕ) (w : Walk) (film : List ℕ) → Walking i w film → length film ≡ length film₀
   walk-kept i w film m =
-      sym (laid-length film (w .pen .drawn) (ahead i w)) ∙ ap length (m .bytes) ∙ laid-length film₀ 0 (records pitch s)
+      sym (laid-length film (w .pen .drawn) (ahead i w)) ∙ ap length (m .bytes) ∙ laid-length film₀ 0 (recordsIn ku fs)
 
-  pub walk-end : (i : ℕ) (w : Walk) (film : List ℕ) → Walking i w film → countOf s ≤ i → Headed s → Lain s film₀ (w .pen .drawn) film
+  pub walk-end : (i : ℕ) (w : Walk) (film : List ℕ) → Walking i w film → length fs ≤ i → Lain ku fs film₀ (w .pen .drawn) film
   unfolding draw laid
-  walk-end i w film m h d =
-      let e : i ≡ countOf s = omega (arith, m .within) in
-      let none : drop i (entriesOf s) ≡ [] = entries-end s i e in
+  walk-end i w film m h =
+      let none : drop i (entriesIn fs) ≡ [] = entries-end fs i (omega (arith, m .within)) in
       let count = rw none at (m .count) in
       let bytes = rw none at (m .bytes) in
-      record { count = sym (add-zero (w .pen .drawn)) ∙ count; few = omega (arith, m .room, d .high); bytes = bytes }
+      record { count = sym (add-zero (w .pen .drawn)) ∙ count; few = omega (arith, m .room, m .within, d .few); bytes = bytes }

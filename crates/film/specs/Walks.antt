@@ -1,15 +1,16 @@
 -- The walk over a sheet's nodes, and what the drawer ensures.
 use mathlib.Core.Path.{_≡_}
-use mathlib.Core.List.{List, _++_}
+use mathlib.Core.List.{List, [], _++_}
 use Prim.Native.Nat.{ℕ, suc, _+_, _-_, _*_, _≤_, _<_}
 use lib.ListN.{length}
 use Rattle.rules.specs.declared.Drawing.{Drawing}
 use Rattle.rules.specs.Street.{last, counted}
-use Rattle.rules.specs.Sheet.{entry, entryAt, begun}
+use Rattle.rules.specs.Sheet.{Entry, entry, begun}
 use Rattle.rules.specs.Judgement.{left}
-use Rattle.rules.specs.Film.{upperAt, Rec, Sweep, gap, records}
+use Rattle.rules.specs.Film.{upperAt, Rec, Sweep, gap, draw}
 use Rattle.rules.specs.Answers.{drawing, FilmAfter}
 use Rattle.street.specs.Order.{capacity}
+use Rattle.sheet.specs.Fields.{entriesIn}
 use Rattle.film.specs.declared.moves.Node.{Node}
 use Rattle.film.specs.declared.drawer.Walk.{Walk}
 use Rattle.film.specs.Stamps.{each, laid}
@@ -21,9 +22,9 @@ use Rattle.film.specs.Nodes.{kindOf, shown, going}
 abbrev pub pitch : ℕ
 pitch = 16
 
--- n is node i, from 0, under Ku upper tracks
-pub record NodeOf (s : List ℕ) (i ku : ℕ) (n : Node) : Type 0 where
-  pub is : entryAt s i ≡ entry (n .kind) (n .above)
+-- n is the node of an entry, under Ku upper tracks
+pub record NodeOf (e : Entry) (ku : ℕ) (n : Node) : Type 0 where
+  pub is : e ≡ entry (n .kind) (n .above)
   pub upper : n .upper ≡ upperAt (kindOf n) ku (n .above)
 
 -- node n comes next as node i: it has a place, its wire a level and a number, and its records have room
@@ -55,11 +56,15 @@ pub record Visited (w : Walk) (n : Node) (i : ℕ) (film : List ℕ) (r : Walk) 
   pub bytes : after ≡ laid film (w .pen .drawn) (strokes w n i)
   pub room : r .pen .drawn ≤ each * suc i
 
--- the records of a sheet were laid on a film, as far as it reaches, and counted
-pub record Lain (s film : List ℕ) (r : ℕ) (after : List ℕ) : Type 0 where
-  pub count : r ≡ length (records pitch s)
+-- the records of nodes with these fields, under Ku upper tracks
+abbrev pub recordsIn : ℕ → List ℕ → List Rec
+recordsIn ku fs = draw pitch ku 0 0 [] (entriesIn fs)
+
+-- they were laid on a film, as far as it reaches, and counted
+pub record Lain (ku : ℕ) (fs film : List ℕ) (r : ℕ) (after : List ℕ) : Type 0 where
+  pub count : r ≡ length (recordsIn ku fs)
   pub few : r ≤ each * 512
-  pub bytes : after ≡ laid film 0 (records pitch s)
+  pub bytes : after ≡ laid film 0 (recordsIn ku fs)
 
 -- the drawer's answer, and every byte of the film's buffer
 pub record Drawn (s film : List ℕ) (r : Drawing) (after : List ℕ) : Type 0 where

@@ -8,20 +8,20 @@ use crate::nodes::end;
 use crate::nodes::pass;
 use crate::nodes::skip;
 use crate::wires::Wires;
-use bits::get_bits;
 use rules::Drawing;
 use sheet::inspect::Inspected;
 use sheet::inspect::inspect;
+use sheet::layout::count_of;
+use sheet::layout::upper_of;
 ghost use mathlib.Core.Path.{_≡_};
 ghost use mathlib.Core.Option.{none};
-ghost use Prim.Native.Nat.{_*_, _≤_};
+ghost use Prim.Native.Nat.{ℕ, _*_, _≤_};
 ghost use lib.ListN.{length};
-ghost use Rattle.rules.specs.Sheet.{entryAt};
-ghost use Rattle.rules.specs.Film.{records as recordsOf};
 ghost use Rattle.rules.specs.Judgement.{judge};
-ghost use Rattle.sheet.specs.Told.{aboveAt, InSheet};
+ghost use Rattle.sheet.specs.Fields.{entryIn, Unpacked, Faultless};
+ghost use Rattle.sheet.specs.Told.{aboveAt};
 ghost use Rattle.film.specs.Stamps.{each};
-ghost use Rattle.film.specs.Walks.{pitch, NodeOf, Due, Visited, Lain, Drawn};
+ghost use Rattle.film.specs.Walks.{NodeOf, Due, Visited, recordsIn, Lain, Drawn};
 
 // The columns from one node to the next.
 const PITCH: usize = 16;
@@ -36,42 +36,44 @@ pub struct Walk {
 pub fn draw(s: &[u8], film: &mut [u8]) -> Drawing
     ensures { λ r. ⌜ Drawn (now (s .entry)) (now (film .entry)) r (now (film .exit)) ⌝ }
 {
-    let found = inspect(s);
+    let mut fields = [0u8; 512];
+    let found = inspect(s, &mut fields);
     match found {
-        Inspected::Legal => draw_legal(s, film),
+        Inspected::Legal => draw_legal(s, &fields, film),
         Inspected::Unfit(e) => Drawing::Unfit(e),
     }
 }
 
-// 21, and then the film, of a sheet without a fault.
-fn draw_legal(s: &[u8], film: &mut [u8]) -> Drawing
-    requires { ⌜ judge (now s) ≡ none ⌝ }
+// 21, and then the film, of a sheet without a fault, whose fields are unpacked.
+fn draw_legal(s: &[u8], fields: &[u8], film: &mut [u8]) -> Drawing
+    requires { ⌜ (judge (now s) ≡ none) × Unpacked (now s) (now fields) ⌝ }
     ensures { λ r. ⌜ Drawn (now (s .entry)) (now (film .entry)) r (now (film .exit)) ⌝ }
 {
-    let count = count_records(s);
+    let n = count_of(s);
+    let nodes = &fields[..n];
+    let ku = upper_of(s) as usize;
+    let count = count_records(nodes, ku);
     if film.len() < 5 * count {
         return Drawing::FilmShort;
     }
-    lay(s, film);
+    lay(nodes, ku, film);
     Drawing::Film(count)
 }
 
-// The number of records of a sheet without a fault: they are laid on no film.
-fn count_records(s: &[u8]) -> usize
-    requires { ⌜ judge (now s) ≡ none ⌝ }
-    ensures { λ r. ⌜ (r ≡ length (recordsOf pitch (now (s .entry)))) × (r ≤ each * 512) ⌝ }
+// The number of records of nodes without a fault: they are laid on no film.
+fn count_records(fields: &[u8], ku: usize) -> usize
+    requires { ⌜ ((kl : ℕ) × Faultless ku kl (now fields)) ⌝ }
+    ensures { λ r. ⌜ (r ≡ length (recordsIn ku (now (fields .entry)))) × (r ≤ each * 512) ⌝ }
 {
     let mut nothing: [u8; 0] = [];
-    lay(s, &mut nothing)
+    lay(fields, ku, &mut nothing)
 }
 
-// Lays the records of a sheet without a fault on a film, as far as it reaches, and counts them.
-fn lay(s: &[u8], film: &mut [u8]) -> usize
-    requires { ⌜ judge (now s) ≡ none ⌝ }
-    ensures { λ r. ⌜ Lain (now (s .entry)) (now (film .entry)) r (now (film .exit)) ⌝ }
+// Lays the records of nodes without a fault on a film, as far as it reaches, and counts them.
+fn lay(fields: &[u8], ku: usize, film: &mut [u8]) -> usize
+    requires { ⌜ ((kl : ℕ) × Faultless ku kl (now fields)) ⌝ }
+    ensures { λ r. ⌜ Lain ku (now (fields .entry)) (now (film .entry)) r (now (film .exit)) ⌝ }
 {
-    let ku = get_bits(s, 0, 4) as usize;
-    let n = get_bits(s, 6, 10) as usize;
     let wires = Wires::new();
     let pen = Pen {
         wires,
@@ -80,8 +82,8 @@ fn lay(s: &[u8], film: &mut [u8]) -> usize
     };
     let mut walk = Walk { pen, begun: 0 };
     let mut i = 0;
-    while i < n {
-        let node = node_at(s, i, ku);
+    while i < fields.len() {
+        let node = node_of(fields[i], ku);
         walk = visit(film, walk, node, i);
         i += 1;
     }
@@ -120,12 +122,11 @@ fn visit(film: &mut [u8], walk: Walk, node: Node, i: usize) -> Walk
     }
 }
 
-// Node i of a sheet, from 0.
-fn node_at(s: &[u8], i: usize, ku: usize) -> Node
-    requires { ⌜ InSheet (now s) i × (ku ≤ 3) × (aboveAt (entryAt (now s) i) ≤ 3) ⌝ }
-    ensures { λ r. ⌜ NodeOf (now (s .entry)) i ku r ⌝ }
+// The node with these fields.
+fn node_of(fields: u8, ku: usize) -> Node
+    requires { ⌜ (ku ≤ 3) × (aboveAt (entryIn fields) ≤ 3) ⌝ }
+    ensures { λ r. ⌜ NodeOf (entryIn fields) ku r ⌝ }
 {
-    let fields = get_bits(s, 16 + 6 * i, 6);
     let kind = fields / 16;
     let above = (fields % 16) as usize;
     Node {

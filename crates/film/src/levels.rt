@@ -7,7 +7,7 @@ ghost use Rattle.rules.specs.Film.{upper, upperAt, heightAt};
 ghost use Rattle.film.specs.Heights.{high, Level, Reached};
 
 // u, the number of wires in the upper street, at a node by its kind field: at a blank all wires above it.
-pub fn upper_at(kind: u16, ku: usize, above: usize) -> usize
+pub fn upper_at(kind: u8, ku: usize, above: usize) -> usize
     requires { ⌜ (ku ≤ 3) × (above ≤ 3) ⌝ }
     ensures { λ r. ⌜ r ≡ upperAt (kindIn kind) ku above ⌝ }
 {

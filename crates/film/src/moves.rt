@@ -20,7 +20,7 @@ pub struct Pen {
 
 // A node of a sheet: its kind field, the number of wires in the upper street, and of those above it.
 pub struct Node {
-    pub kind: u16,
+    pub kind: u8,
     pub upper: usize,
     pub above: usize,
 }

@@ -4,13 +4,13 @@ use mathlib.Core.List.{List, [], _∷_, _++_, append-assoc, append-nil}
 use Prim.Native.Nat.{ℕ, suc, _+_, _*_, _≤_, _<_}
 use native.Mathlib.Numerals.{add-one}
 use native.Mathlib.Omega.{arith}
-use lib.ListN.{length, drop, length-append}
+use lib.ListN.{length, getD, drop, length-append}
 use Rattle.rules.specs.Street.{counted}
-use Rattle.rules.specs.Sheet.{kindIn, size, Entry, entry, countOf, entryAt, entriesOf}
-use Rattle.bits.specs.Access.{Inside, Got}
+use Rattle.rules.specs.Sheet.{kindIn, Entry, entry}
+use Rattle.sheet.specs.Fields.{entryIn, entriesIn}
 use Rattle.sheet.proofs.Scans.{entries-from, entries-end}
 use Rattle.listing.specs.Text.{decimal, closed, line, letter, placeIn, nodeLine, openAfter, nodeLines}
-use Rattle.listing.specs.Wrote.{Wrote, Readable}
+use Rattle.listing.specs.Wrote.{Wrote}
 use Rattle.listing.proofs.Writing.{wrote-none, wrote-more}
 use Rattle.listing.proofs.Decimals.{decimal-short}
 
@@ -45,61 +45,50 @@ wrote-node node k a nets l p b el ep eb {t₀} {t₁} {t₂} {t₃} {t₄} {p₀
     ∙ ap (λ (q : ℕ). line (decimal node) (letter (kindIn k) ∷ []) (decimal q) (decimal (counted (kindIn k) nets))) ep in
     rw e at (wrote-line (decimal node) (l ∷ []) (decimal p) (decimal b) w₁ w₂ w₃ w₄)
 
--- a node's fields lie in the sheet
-pub kind-inside : (s : List ℕ) (n i : ℕ) → Readable s n → i < n → Inside s (16 + 6 * i) 2
-unfolding size
-kind-inside s n i r h = record { small = omega arith; within = omega (arith, r .whole) }
-
-pub place-inside : (s : List ℕ) (n i : ℕ) → Readable s n → i < n → Inside s (18 + 6 * i) 4
-unfolding size
-place-inside s n i r h = record { small = omega arith; within = omega (arith, r .whole) }
-
 -- the lines of the first i nodes are put, after which so many nets are open
-pub record Through (s text : List ℕ) (at i nets : ℕ) (text′ : List ℕ) (end : ℕ) : Type 0 where
-  pub within : i ≤ countOf s
+pub record Through (fs text : List ℕ) (at i nets : ℕ) (text′ : List ℕ) (end : ℕ) : Type 0 where
+  pub within : i ≤ length fs
   pub few : nets ≤ i
   pub room : end ≤ at + 16 * i
   pub lines : List ℕ
   pub wrote : Wrote text at lines text′ end
-  pub rest : lines ++ nodeLines (suc i) nets (drop i (entriesOf s)) ≡ nodeLines 1 0 (entriesOf s)
+  pub rest : lines ++ nodeLines (suc i) nets (drop i (entriesIn fs)) ≡ nodeLines 1 0 (entriesIn fs)
 
-module _ (s text : List ℕ) (at : ℕ) where
-  pub through-none : Through s text at 0 0 text at
+module _ (fs text : List ℕ) (at : ℕ) where
+  pub through-none : Through fs text at 0 0 text at
   through-none = record { within = omega arith; few = omega arith; room = omega arith; lines = []; wrote = wrote-none text at; rest = refl }
 
-  module _ (i nets : ℕ) (text′ : List ℕ) (end : ℕ) (h : i < countOf s) (m : Through s text at i nets text′ end) where
-    node-rest : (k a : ℕ) → entryAt s i ≡ entry k a
-        → (m .lines ++ nodeLine (i + 1) nets (entry k a)) ++ nodeLines (suc (i + 1)) (openAfter nets (entry k a)) (drop (i + 1) (entriesOf s))
-        ≡ nodeLines 1 0 (entriesOf s)
+  module _ (i nets : ℕ) (text′ : List ℕ) (end : ℕ) (h : i < length fs) (m : Through fs text at i nets text′ end) where
+    -- node i's entry
+    abbrev own : Entry
+    own = entryIn (getD fs i 0)
+
+    node-rest : (m .lines ++ nodeLine (i + 1) nets own) ++ nodeLines (suc (i + 1)) (openAfter nets own) (drop (i + 1) (entriesIn fs)) ≡ nodeLines 1 0 (entriesIn fs)
     unfolding nodeLines
-    node-rest k a e =
-        append-assoc (m .lines) (nodeLine (i + 1) nets (entry k a)) (nodeLines (suc (i + 1)) (openAfter nets (entry k a)) (drop (i + 1) (entriesOf s)))
-        ∙ ap (λ (j : ℕ). m .lines ++ (nodeLine j nets (entry k a) ++ nodeLines (suc j) (openAfter nets (entry k a)) (drop j (entriesOf s)))) (add-one i)
-        ∙ ap (λ (x : Entry). m .lines ++ (nodeLine (suc i) nets x ++ nodeLines (suc (suc i)) (openAfter nets x) (drop (suc i) (entriesOf s)))) (sym e)
-        ∙ ap (λ (es : List Entry). m .lines ++ nodeLines (suc i) nets es) (sym (entries-from s i h))
+    node-rest =
+        append-assoc (m .lines) (nodeLine (i + 1) nets own) (nodeLines (suc (i + 1)) (openAfter nets own) (drop (i + 1) (entriesIn fs)))
+        ∙ ap (λ (j : ℕ). m .lines ++ (nodeLine j nets own ++ nodeLines (suc j) (openAfter nets own) (drop j (entriesIn fs)))) (add-one i)
+        ∙ ap (λ (es : List Entry). m .lines ++ nodeLines (suc i) nets es) (sym (entries-from fs i h))
         ∙ m .rest
 
-    pub through-more : (k a : ℕ) {nets′ : ℕ} {text″ : List ℕ} {end′ : ℕ} → Got s (16 + 6 * i) 2 k → Got s (18 + 6 * i) 4 a
-        → Wrote text′ end (nodeLine (i + 1) nets (entry k a)) text″ end′ → end′ ≤ end + 16 → nets′ ≡ openAfter nets (entry k a) → nets′ ≤ nets + 1
-        → Through s text at (i + 1) nets′ text″ end′
-    unfolding entryAt
-    through-more k a {nets′} gk ga w r e l =
-        let is : entryAt s i ≡ entry k a = ap₂ entry (sym (gk .is)) (sym (ga .is)) in
+    pub through-more : {nets′ : ℕ} {text″ : List ℕ} {end′ : ℕ} → Wrote text′ end (nodeLine (i + 1) nets own) text″ end′ → end′ ≤ end + 16
+        → nets′ ≡ openAfter nets own → nets′ ≤ nets + 1 → Through fs text at (i + 1) nets′ text″ end′
+    through-more w r e l =
         record {
           within = omega arith;
           few = omega (arith, m .few);
           room = omega (arith, m .room);
-          lines = m .lines ++ nodeLine (i + 1) nets (entry k a);
+          lines = m .lines ++ nodeLine (i + 1) nets own;
           wrote = wrote-more (m .wrote) w;
           rest =
-              ap (λ (b : ℕ). (m .lines ++ nodeLine (i + 1) nets (entry k a)) ++ nodeLines (suc (i + 1)) b (drop (i + 1) (entriesOf s))) e
-              ∙ node-rest k a is;
+              ap (λ (b : ℕ). (m .lines ++ nodeLine (i + 1) nets own) ++ nodeLines (suc (i + 1)) b (drop (i + 1) (entriesIn fs))) e
+              ∙ node-rest;
         }
 
-  pub through-all : (i nets : ℕ) (text′ : List ℕ) (end : ℕ) → i ≡ countOf s → Through s text at i nets text′ end
-      → Wrote text at (nodeLines 1 0 (entriesOf s)) text′ end
+  pub through-all : (i nets : ℕ) (text′ : List ℕ) (end : ℕ) → i ≡ length fs → Through fs text at i nets text′ end
+      → Wrote text at (nodeLines 1 0 (entriesIn fs)) text′ end
   unfolding nodeLines
   through-all i nets text′ end e m =
-      let all : m .lines ≡ nodeLines 1 0 (entriesOf s) =
-      sym (append-nil (m .lines)) ∙ ap (λ (es : List Entry). m .lines ++ nodeLines (suc i) nets es) (sym (entries-end s i e)) ∙ m .rest in
+      let all : m .lines ≡ nodeLines 1 0 (entriesIn fs) =
+      sym (append-nil (m .lines)) ∙ ap (λ (es : List Entry). m .lines ++ nodeLines (suc i) nets es) (sym (entries-end fs i e)) ∙ m .rest in
       rw all at (m .wrote)

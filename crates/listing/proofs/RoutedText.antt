@@ -3,9 +3,10 @@ use mathlib.Core.Path.{_≡_, refl, sym, ap, ap₂, _∙_}
 use mathlib.Core.Bool.{Bool, true, false, not}
 use mathlib.Core.List.{List, [], _++_}
 use mathlib.Core.Option.{Option, none}
-use Prim.Native.Nat.{ℕ, suc, _+_, _*_, _≤_}
+use Prim.Native.Nat.{ℕ, suc, _*_, _≤_}
 use native.Mathlib.Omega.{arith}
-use lib.ListN.{length, drop, replicate, length-append, length-replicate}
+use lib.ListN.{length, take, drop, replicate, length-append, length-replicate}
+use lib.Seq.{length-take-le}
 use lib.Dec.{ltb}
 use Rattle.rules.specs.declared.Routing.{Routing}
 use Rattle.rules.specs.declared.Routing.the-variants.{Sheet, RowLength, Tracks, Lone, WorkShort, SheetShort, Stuck}
@@ -19,7 +20,7 @@ use Rattle.rules.proofs.SheetFields.{LaidOut}
 use Rattle.rules.proofs.Accepted.{length-entries, length-nodes, placed-laid}
 use Rattle.rules.proofs.Demand3.{Checked, checked-fit, Answered, placed, stuck, answered}
 use Rattle.router.specs.Routed.{Routed}
-use Rattle.bits.specs.Access.{Inside, Got}
+use Rattle.sheet.specs.Fields.{entriesIn, Packed, Unpacked}
 use Rattle.listing.specs.Text.{headLine, nodeLines, listed, answer, rowText}
 use Rattle.listing.specs.Wrote.{Wrote, Readable, Listable, Listing}
 use Rattle.listing.proofs.Writing.{wrote-more, wrote-listing}
@@ -27,22 +28,28 @@ use Rattle.listing.proofs.FrontFields.{front-count, front-listed}
 
 -- ---- a sheet
 
--- the head's fields lie in the sheet
-pub upper-inside : {s : List ℕ} {n : ℕ} → Readable s n → Inside s 0 4
+-- a sheet whose nodes can be listed has its head, and its nodes can be unpacked to 512 bytes
+pub readable-long : {s : List ℕ} {n : ℕ} → Readable s n → 2 ≤ length s
 unfolding size
-upper-inside r = record { small = omega arith; within = omega (arith, r .whole) }
+readable-long r = omega (arith, r .whole)
 
-pub lower-inside : {s : List ℕ} {n : ℕ} → Readable s n → Inside s 4 2
+pub readable-packed : {s : List ℕ} {n : ℕ} → Readable s n → (fields : List ℕ) → 512 ≤ length fields → Packed s n fields
 unfolding size
-lower-inside r = record { small = omega arith; within = omega (arith, r .whole) }
+readable-packed r fields h = record { count = sym (r .count); within = omega (arith, r .whole); room = omega (arith, r .few) }
 
--- heading and node lines are the sheet's text
-pub sheet-listing : {s text text′ text″ : List ℕ} (n ku kl : ℕ) {mid end : ℕ} → Got s 0 4 ku → Got s 4 2 kl → Wrote text 0 (headLine n ku kl) text′ mid
-    → Wrote text′ mid (nodeLines 1 0 (entriesOf s)) text″ end → end ≤ length text → Listing (listed (Sheet n) s) text text″ end
-unfolding listed upperOf lowerOf
-sheet-listing {s} n ku kl gu gl w₁ w₂ h =
-    let e : headLine n ku kl ≡ headLine n (upperOf s) (lowerOf s) = ap₂ (headLine n) (gu .is) (gl .is) in
-    wrote-listing (wrote-more (rw e at w₁) w₂) h
+-- there is an unpacked byte for each node
+pub unpacked-count : {s fields : List ℕ} {n : ℕ} → Readable s n → Unpacked s fields → n ≡ length (take n fields)
+unpacked-count {fields = fields} {n = n} r u = sym (length-take-le n fields (omega (arith, r .count, u .within)))
+
+-- heading and the lines of its unpacked nodes are the sheet's text
+pub sheet-listing : {s fields text text′ text″ : List ℕ} {n : ℕ} (ku kl : ℕ) {mid end : ℕ} → Readable s n → Unpacked s fields → ku ≡ upperOf s → kl ≡ lowerOf s
+    → Wrote text 0 (headLine n ku kl) text′ mid → Wrote text′ mid (nodeLines 1 0 (entriesIn (take n fields))) text″ end → end ≤ length text
+    → Listing (listed (Sheet n) s) text text″ end
+unfolding listed
+sheet-listing {s} {fields} {n = n} ku kl r u eu el w₁ w₂ h =
+    let e₁ : headLine n ku kl ≡ headLine n (upperOf s) (lowerOf s) = ap₂ (headLine n) eu el in
+    let e₂ : entriesIn (take n fields) ≡ entriesOf s = ap (λ (k : ℕ). entriesIn (take k fields)) (sym (r .count)) ∙ u .entries in
+    wrote-listing (wrote-more (rw e₁ at w₁) (rw e₂ at w₂)) h
 
 -- the same answer has the same text
 pub answer-listing : (r r′ : Routing) (s : List ℕ) {text text′ : List ℕ} {end : ℕ} → r ≡ r′ → Listing (listed r′ s) text text′ end → Listing (listed r s) text text′ end

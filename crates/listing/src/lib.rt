@@ -6,6 +6,9 @@ use nodes::list_nodes;
 use put::put_number;
 use put::put_word;
 use rules::Routing;
+use sheet::layout::lower_of;
+use sheet::layout::unpack;
+use sheet::layout::upper_of;
 ghost use Prim.Native.Nat.{_≤_, _<_};
 ghost use lib.ListN.{length};
 ghost use Rattle.io.specs.Counts.{Counts};
@@ -58,10 +61,12 @@ fn list_sheet(n: usize, sheet: &[u8], text: &mut [u8]) -> usize
     requires { ⌜ 8256 ≤ length (now text) ⌝ }
     ensures { λ r. ⌜ Listing (listed (Routing.Sheet n) (now (sheet .entry))) (now (text .entry)) (now (text .exit)) r ⌝ }
 {
-    let ku = bits::get_bits(sheet, 0, 4) as usize;
-    let kl = bits::get_bits(sheet, 4, 2) as usize;
+    let mut fields = [0u8; 512];
+    unpack(sheet, n, &mut fields);
+    let ku = upper_of(sheet) as usize;
+    let kl = lower_of(sheet) as usize;
     let at = list_head(n, ku, kl, text);
-    list_nodes(sheet, n, text, at)
+    list_nodes(&fields[..n], text, at)
 }
 
 // `sheet`, n, Ku, Kl.

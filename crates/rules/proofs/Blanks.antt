@@ -9,9 +9,8 @@ use lib.ListN.{length, take, getD}
 use lib.Seq.{take-suc}
 use Rattle.rules.specs.declared.Routing.the-variants.{Stuck}
 use Rattle.rules.specs.Basic.{andThen}
-use Rattle.rules.specs.Row.{blank, Kind, B, M, E, N, Node, node, nodeAt, nodes}
+use Rattle.rules.specs.Row.{blank, N, Node, node, nodeAt, nodes}
 use Rattle.rules.specs.Street.{counted, kind, stands, next, run, Passes, StopsAt}
-use Rattle.rules.specs.Judgement.{left}
 use Rattle.rules.specs.Answers.{routing}
 use Rattle.rules.proofs.Fits.{FitsAt}
 use Rattle.rules.proofs.Runs.{Runs, onward-leads, runs-length, run-append}
@@ -19,16 +18,9 @@ use Rattle.rules.proofs.Failing.{runs-passes, passes-runs}
 use Rattle.rules.proofs.Choices.{lowest-fits}
 use Rattle.rules.proofs.Pins.{getD-tabulate, node-blank}
 use Rattle.rules.proofs.Open.{onto}
-use Rattle.rules.proofs.Legal.{length-next}
+use Rattle.rules.proofs.Legal.{left-le, length-next}
 use Rattle.rules.proofs.Accepted.{length-nodes}
 use Rattle.rules.proofs.Demand3.{Checked, six-exactly}
-
-left-le : (k : Kind) (b : ℕ) → left k b ≤ counted k b
-unfolding left counted
-left-le B b = omega arith
-left-le M b = omega arith
-left-le E b = omega arith
-left-le N b = omega arith
 
 module _ (ku kl : ℕ) where
   -- after a node no more nets are open than both streets have tracks

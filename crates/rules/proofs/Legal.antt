@@ -22,6 +22,14 @@ use Rattle.rules.proofs.Fits.{FitsAt, met-at, at-met}
 use Rattle.rules.proofs.Open.{onto}
 use Rattle.rules.proofs.Pins.{at-before}
 
+-- after a node no more nets are open than at it
+pub left-le : (k : Kind) (b : ℕ) → left k b ≤ counted k b
+unfolding left counted
+left-le B b = omega arith
+left-le M b = omega arith
+left-le E b = omega arith
+left-le N b = omega arith
+
 -- entries from b open nets on: each has a position that fits, and none is open after the last
 pub data Legal (ku kl : ℕ) : ℕ → List Entry → Type 0 where
   done : Legal ku kl 0 []
@@ -30,9 +38,9 @@ pub data Legal (ku kl : ℕ) : ℕ → List Entry → Type 0 where
 
 module _ (ku kl : ℕ) where
   -- what the tests at one node find
-  clear : (i b f a : ℕ) → faultAt ku kl i b (entry f a) ≡ none → FitsAt (kindIn f) ku kl (suc a) (counted (kindIn f) b)
+  pub clear-fits : (i b f a : ℕ) → faultAt ku kl i b (entry f a) ≡ none → FitsAt (kindIn f) ku kl (suc a) (counted (kindIn f) b)
   unfolding faultAt orElse keep broken
-  clear i b f a = go (leb (last k c) a) (limitsAt k ku kl (suc a) c) refl refl
+  clear-fits i b f a = go (leb (last k c) a) (limitsAt k ku kl (suc a) c) refl refl
     where
       k : Kind
       k = kindIn f
@@ -48,9 +56,9 @@ module _ (ku kl : ℕ) where
       go false Lower ep el e = let z : _≡_ {A = ℕ} 0 1 = cc in absurd (omega arith)
       go false Sum ep el e = let z : _≡_ {A = ℕ} 0 1 = cc in absurd (omega arith)
 
-  unclear : (i b f a : ℕ) → FitsAt (kindIn f) ku kl (suc a) (counted (kindIn f) b) → faultAt ku kl i b (entry f a) ≡ none
+  pub fits-clear : (i b f a : ℕ) → FitsAt (kindIn f) ku kl (suc a) (counted (kindIn f) b) → faultAt ku kl i b (entry f a) ≡ none
   unfolding faultAt orElse keep broken
-  unclear i b f a h =
+  fits-clear i b f a h =
       rw (lt-leb (last (kindIn f) (counted (kindIn f) b)) a (h .high), at-met ku kl (suc a) (counted (kindIn f) b) (kindIn f) h)
 
   pub scan-legal : (i b : ℕ) (es : List Entry) → scan ku kl i b es ≡ none → leftOpen b es ≡ 0 → Legal ku kl b es
@@ -60,13 +68,13 @@ module _ (ku kl : ℕ) where
     where
       go : (x : Option Fault) → faultAt ku kl i b (entry f a) ≡ x → orElse x (scan ku kl (suc i) (left (kindIn f) b) es) ≡ none
           → (scan ku kl (suc i) (left (kindIn f) b) es ≡ none → Legal ku kl (left (kindIn f) b) es) → Legal ku kl b (entry f a ∷ es)
-      go none ex e ih = then (clear i b f a ex) (ih e)
+      go none ex e ih = then (clear-fits i b f a ex) (ih e)
       go (some x) ex e ih = let z : _≡_ {A = ℕ} 0 1 = cc in absurd (omega arith)
 
   pub legal-scan : (i : ℕ) {b : ℕ} {es : List Entry} → Legal ku kl b es → scan ku kl i b es ≡ none
   unfolding scan orElse
   legal-scan i done = refl
-  legal-scan i (then {b} {f} {a} h l) = rw (unclear i b f a h) (legal-scan (suc i) l)
+  legal-scan i (then {b} {f} {a} h l) = rw (fits-clear i b f a h) (legal-scan (suc i) l)
 
   pub legal-open : {b : ℕ} {es : List Entry} → Legal ku kl b es → leftOpen b es ≡ 0
   unfolding leftOpen

@@ -1,7 +1,7 @@
 -- Two rows join the same pins and have the same blanks exactly when the street rules see the same nodes in them.
 use mathlib.Core.Path.{_≡_, refl, sym, ap, ap₂, _∙_}
 use mathlib.Core.Bool.{Bool, true, false, not, _&&_}
-use mathlib.Core.List.{List, [], _∷_}
+use mathlib.Core.List.{List, [], _∷_, map}
 use mathlib.Core.Logic.{_↔_}
 use Prim.Native.Nat.{ℕ, zero, suc, _+_, _-_, _≤_, _<_}
 use native.Mathlib.Nat.{le-of-suc-le-suc, not-suc-le-zero}
@@ -34,6 +34,11 @@ unfolding tabulate
 tabulate-cong f g zero h = refl
 tabulate-cong {A = A} f g (suc n) h =
     ap₂ {C = List A} (λ x l. x ∷ l) (h 0 (omega arith)) (tabulate-cong (λ i. f (suc i)) (λ i. g (suc i)) n (λ i l. h (suc i) (omega arith)))
+
+pub map-tabulate {ℓ ℓ′} : {A : Type ℓ} {C : Type ℓ′} (g : A → C) (f : ℕ → A) (n : ℕ) → map g (tabulate f n) ≡ tabulate (λ i. g (f i)) n
+unfolding tabulate
+map-tabulate g f zero = refl
+map-tabulate {C = C} g f (suc n) = ap {B = List C} (λ l. g (f 0) ∷ l) (map-tabulate g (λ i. f (suc i)) n)
 
 pub least-cong : (f g : ℕ → Bool) (n : ℕ) → ((i : ℕ) → i < n → f i ≡ g i) → least f n ≡ least g n
 unfolding least

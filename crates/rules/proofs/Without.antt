@@ -15,7 +15,7 @@ use borrow.Author.Tests.{eqb-true, eqb-false, eq-eqb, ne-eqb}
 use Rattle.rules.specs.Basic.{pick, tabulate, keep, andThen}
 use Rattle.rules.specs.Row.{before, has, blank, home, later, B, M, E, N, Kind, Node, node, nodeAt, nodes}
 use Rattle.rules.specs.Street.{fitsAt, counted, kind, stands, next, step, run, IsFirst, Passes, StopsAt}
-use Rattle.rules.proofs.Pins.{length-tabulate, tabulate-cong, unjoined, blank-node}
+use Rattle.rules.proofs.Pins.{length-tabulate, tabulate-cong, map-tabulate, unjoined, blank-node}
 use Rattle.rules.proofs.Open.{one, one-other, times}
 use Rattle.rules.proofs.GivenBack.{has-in, has-out}
 use Rattle.rules.proofs.Renamed.{Only, before-map, next-map}
@@ -208,11 +208,6 @@ bare-tabulate (x ∷ l) f h = go (eqb x 255) refl (bare-tabulate l (λ j. f (suc
         → bare (f 0 ∷ ns) ≡ tabulate (λ j. f (pick t (suc (place l j)) (behind (place l) j))) (length (pick t (without l) (x ∷ without l)))
     go true e ih = bare-blank (f 0) ns (h 0 (omega arith) ∙ e) ∙ ih
     go false e ih = bare-net (f 0) ns (h 0 (omega arith) ∙ e) ∙ ap {B = List Node} (λ ms. f 0 ∷ ms) ih
-
-map-tabulate : (g : Node → Node) (f : ℕ → Node) (n : ℕ) → map g (tabulate f n) ≡ tabulate (λ j. g (f j)) n
-unfolding tabulate
-map-tabulate g f zero = refl
-map-tabulate g f (suc n) = ap {B = List Node} (λ ms. g (f 0) ∷ ms) (map-tabulate g (λ j. f (suc j)) n)
 
 -- the nodes of a row that are no blanks are those of the row without blanks, known by their places
 pub bare-nodes : (row : List ℕ) → bare (nodes row) ≡ map (renamed (place row)) (nodes (without row))

@@ -7,10 +7,7 @@ use native.Mathlib.Omega.{arith}
 use lib.ListN.{length, getD, take, drop, set, length-append, length-drop}
 use lib.Seq.{take-suc, drop-cons, append-snoc, set-at, length-take-le, take-length}
 use Rattle.rules.specs.Answers.{written}
-
--- the buffer d with the first i of t written over its first i
-abbrev pub filled : List ℕ → List ℕ → ℕ → List ℕ
-filled t d i = take i t ++ drop i d
+use Rattle.sheet.specs.Fields.{filled}
 
 module _ (t d : List ℕ) (i : ℕ) where
   pub fill-length : i ≤ length t → i ≤ length d → length (filled t d i) ≡ length d

@@ -3,7 +3,7 @@ use mathlib.Core.Path.{_≡_, refl}
 use mathlib.Core.Bool.{Bool, true, false, not, _&&_, _||_}
 use mathlib.Core.List.{List}
 use mathlib.Core.Option.{none, some}
-use Prim.Native.Nat.{ℕ, _-_, _≤_, _<_}
+use Prim.Native.Nat.{ℕ, _≤_, _<_}
 use native.Mathlib.Omega.{arith}
 use lib.ListN.{length}
 use lib.Dec.{leb, ltb, eqb}
@@ -14,7 +14,7 @@ use Rattle.rules.specs.Sheet.{takes, size, upperOf, lowerOf, countOf}
 use Rattle.rules.specs.Judgement.{wrongCount, head}
 use Rattle.rules.proofs.SheetFields.{lowerOf-lt}
 use Rattle.bits.specs.Access.{Got}
-use Rattle.sheet.specs.Told.{InSheet}
+use Rattle.sheet.specs.Fields.{Packed}
 
 -- 11 to 13 found nothing
 pub record Headed (s : List ℕ) : Type 0 where
@@ -92,7 +92,7 @@ module _ (s : List ℕ) where
           }
       go false false false true false ea eb ec ed ef e = let z : some Length ≡ none = rw (le-leb (lowerOf s) 3 (lower-small s)) at e in let z′ : _≡_ {A = ℕ} 0 1 = cc in absurd (omega arith)
 
-  -- every node of such a sheet lies in its bytes
-  pub in-sheet : Headed s → (i : ℕ) → i < countOf s → InSheet s i
+  -- the nodes of such a sheet can be unpacked to 512 bytes
+  pub packed : Headed s → {n : ℕ} → n ≡ countOf s → (fields : List ℕ) → 512 ≤ length fields → Packed s n fields
   unfolding size
-  in-sheet h i l = omega (arith, h .whole)
+  packed h e fields l = record { count = e; within = omega (arith, h .whole); room = omega (arith, h .high) }

@@ -1,3 +1,4 @@
+pub mod FieldBytes
 pub mod Heads
 pub mod Tells
 pub mod Wires

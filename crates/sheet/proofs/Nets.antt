@@ -1,26 +1,23 @@
--- How many nets a sheet without a fault has: each node begins one, ends one, or does neither.
+-- How many nets nodes without a fault have: each node begins one, ends one, or does neither.
 use mathlib.Core.Path.{_≡_, refl, sym, ap, _∙_}
 use mathlib.Core.Bool.{true, false}
 use mathlib.Core.List.{List, [], _∷_}
-use mathlib.Core.Option.{none}
-use Prim.Native.Nat.{ℕ, zero, suc, _+_, _*_, _%_, _≤_, _<_}
+use Prim.Native.Nat.{ℕ, zero, suc, _+_, _*_, _/_, _%_, _≤_, _<_}
 use native.Mathlib.Numerals.{add-one}
 use native.Mathlib.Omega.{arith}
-use lib.ListN.{length, drop}
+use lib.ListN.{length, getD, drop, length-map}
 use lib.Dec.{ltb}
 use borrow.Author.Tests.{lt-ltb, le-ltb}
 use Rattle.rules.specs.Row.{Kind, B, M, E, N}
 use Rattle.rules.specs.Street.{last, counted}
-use Rattle.rules.specs.Bits.{field}
-use Rattle.rules.specs.Sheet.{kindIn, Entry, entry, countOf, entryAt, entriesOf, begun, begunBy, netsOf}
-use Rattle.rules.specs.Judgement.{left, judge}
+use Rattle.rules.specs.Sheet.{kindIn, Entry, entry, begun, begunBy}
+use Rattle.rules.specs.Judgement.{left}
+use Rattle.rules.proofs.Fields.{below-at}
 use Rattle.rules.proofs.Fits.{FitsAt}
-use Rattle.rules.proofs.Fields.{field-lt}
 use Rattle.rules.proofs.Legal.{Legal, done, then}
-use Rattle.rules.proofs.SheetFields.{length-entriesOf}
-use Rattle.rules.proofs.Accepted.{judge-passed}
-use Rattle.bits.specs.Access.{Got}
+use Rattle.sheet.specs.Fields.{entryIn, entriesIn, Faultless}
 use Rattle.sheet.proofs.Scans.{entries-from, entries-end}
+use Rattle.sheet.proofs.Walks.{faultless-legal}
 
 -- 1 for a node that neither begins nor ends a net
 abbrev between : Kind → ℕ
@@ -56,39 +53,46 @@ betweens-nets {ku} {kl} (then {b} {f} {a} {es} h l) n = go (kindIn f) h (between
     go E h e = omega (arith, h .high)
     go N h e = omega arith
 
-module _ (s : List ℕ) where
-  sheet-nets : judge s ≡ none → 2 * netsOf s + betweens (entriesOf s) ≡ countOf s
-  unfolding netsOf
-  sheet-nets e = omega (arith, betweens-nets (judge-passed s e .legal) 0, length-entriesOf s)
+module _ (fs : List ℕ) where
+  -- fields without a fault under some streets
+  abbrev Clear : Type 0
+  Clear = (ku : ℕ) × (kl : ℕ) × Faultless ku kl fs
+
+  -- how many nets they have
+  abbrev nets : ℕ
+  nets = begunBy 0 (entriesIn fs)
+
+  clear-nets : Clear → 2 * nets + betweens (entriesIn fs) ≡ length fs
+  clear-nets c = omega (arith, betweens-nets (faultless-legal (c .2)) 0, length-map fs entryIn)
 
   -- fewer than 512 nodes have at most 255 nets
-  pub nets-short : judge s ≡ none → countOf s < 512 → false ≡ ltb 255 (netsOf s)
-  nets-short e h = sym (le-ltb 255 (netsOf s) (omega (arith, sheet-nets e)))
+  pub nets-short : Clear → length fs < 512 → false ≡ ltb 255 nets
+  nets-short c h = sym (le-ltb 255 nets (omega (arith, clear-nets c)))
 
   -- each node before i begins a net or ends one
   pub record Paired (i : ℕ) : Type 0 where
-    pub within : i ≤ countOf s
-    pub rest : betweens (drop i (entriesOf s)) ≡ betweens (entriesOf s)
+    pub within : i ≤ length fs
+    pub rest : betweens (drop i (entriesIn fs)) ≡ betweens (entriesIn fs)
 
   pub paired-start : Paired 0
   paired-start = record { within = omega arith; rest = refl }
 
-  module _ (i : ℕ) (h : i < countOf s) (m : Paired i) {r : ℕ} (g : Got s (16 + 6 * i) 2 r) where
-    here : r % 2 + betweens (drop (suc i) (entriesOf s)) ≡ betweens (entriesOf s)
-    unfolding betweens entryAt
-    here =
-        let f : ℕ = field s (16 + 6 * i) 2 in
-        ap (λ (x : ℕ). x + betweens (drop (suc i) (entriesOf s))) (ap (λ (x : ℕ). x % 2) (g .is) ∙ sym (between-odd f (field-lt s (16 + 6 * i) 2)))
-        ∙ ap betweens (sym (entries-from s i h)) ∙ m .rest
+  module _ (i : ℕ) (h : i < length fs) (m : Paired i) where
+    here : between (kindIn (getD fs i 0 / 16)) + betweens (drop (suc i) (entriesIn fs)) ≡ betweens (entriesIn fs)
+    unfolding betweens entryIn
+    here = ap betweens (sym (entries-from fs i h)) ∙ m .rest
 
-    pub paired-step : (r % 2 ≡ 1 → ⊥) → Paired (i + 1)
-    paired-step n = record { within = omega arith; rest = rw (add-one i) (omega (arith, here, n)) }
+    odd : Clear → between (kindIn (getD fs i 0 / 16)) ≡ getD fs i 0 / 16 % 2
+    odd c = between-odd (getD fs i 0 / 16) (omega (arith, below-at (c .2 .low) i 0 h))
 
-    pub paired-fails : judge s ≡ none → countOf s ≤ 512 → r % 2 ≡ 1 → false ≡ ltb 255 (netsOf s)
-    paired-fails e l o = sym (le-ltb 255 (netsOf s) (omega (arith, sheet-nets e, here)))
+    pub paired-step : Clear → (getD fs i 0 / 16 % 2 ≡ 1 → ⊥) → Paired (i + 1)
+    paired-step c n = record { within = omega arith; rest = rw (add-one i) (omega (arith, here, n, odd c)) }
 
-  pub paired-end : (i : ℕ) → i ≡ countOf s → 512 ≤ countOf s → Paired i → judge s ≡ none → true ≡ ltb 255 (netsOf s)
+    pub paired-fails : Clear → getD fs i 0 / 16 % 2 ≡ 1 → false ≡ ltb 255 nets
+    paired-fails c o = sym (le-ltb 255 nets (omega (arith, clear-nets c, c .2 .few, here, odd c)))
+
+  pub paired-end : (i : ℕ) → length fs ≤ i → 512 ≤ length fs → Paired i → Clear → true ≡ ltb 255 nets
   unfolding betweens
-  paired-end i q l m e =
-      let z : betweens (entriesOf s) ≡ 0 = sym (m .rest) ∙ rw (entries-end s i q) in
-      sym (lt-ltb 255 (netsOf s) (omega (arith, sheet-nets e)))
+  paired-end i q l m c =
+      let z : betweens (entriesIn fs) ≡ 0 = sym (m .rest) ∙ rw (entries-end fs i (omega (arith, m .within))) in
+      sym (lt-ltb 255 nets (omega (arith, clear-nets c)))

@@ -1,42 +1,39 @@
--- The walk over a sheet's entries: what is left of the scan at a node, with the count of open nets there.
-use mathlib.Core.Path.{_≡_, refl, sym, ap, ap₂, _∙_}
+-- The walk over nodes by their fields: what is left of the scan at a node, with the count of open nets there.
+use mathlib.Core.Path.{_≡_, refl, sym, ap, _∙_}
+use mathlib.Core.Bool.{Bool, true, false}
 use mathlib.Core.List.{List, [], _∷_}
 use mathlib.Core.Option.{none, some}
-use Prim.Native.Nat.{ℕ, suc, _+_, _≤_, _<_}
+use Prim.Native.Nat.{ℕ, zero, suc, _+_, _-_, _*_, _/_, _%_, _≤_, _<_}
+use native.Mathlib.Nat.{not-suc-le-zero, le-of-suc-le-suc}
 use native.Mathlib.Numerals.{add-one}
 use native.Mathlib.Omega.{arith}
-use lib.ListN.{drop}
-use lib.Seq.{drop-cons, drop-length}
-use Rattle.rules.specs.declared.Fault.{Fault}
-use Rattle.rules.specs.Basic.{orElse, tabulate}
-use Rattle.rules.specs.Row.{Kind, B, M, E, N}
-use Rattle.rules.specs.Sheet.{kindIn, Entry, entry, upperOf, lowerOf, countOf, entryAt, entriesOf}
+use lib.ListN.{length, getD, take, drop, length-map}
+use lib.Seq.{drop-length}
+use lib.Dec.{eqb}
+use borrow.Author.Tests.{ne-eqb}
+use Rattle.rules.specs.Basic.{pick, orElse}
+use Rattle.rules.specs.Row.{Kind, E}
+use Rattle.rules.specs.Street.{last, counted, fitsAt}
+use Rattle.rules.specs.Sheet.{kindIn, Entry, entry, upperOf, lowerOf, countOf, entriesOf}
 use Rattle.rules.specs.Judgement.{faultAt, left, scan, leftOpen, middle}
-use Rattle.rules.proofs.Pins.{length-tabulate, getD-tabulate}
-use Rattle.rules.proofs.SheetFields.{length-entriesOf}
+use Rattle.rules.proofs.Fits.{FitsAt, fitsAt→, →fitsAt}
+use Rattle.rules.proofs.Legal.{left-le, clear-fits, fits-clear}
+use Rattle.street.specs.Places.{marked, Places}
+use Rattle.rules.specs.declared.Fault.{Fault}
 use Rattle.sheet.specs.declared.inspect.Passed.{Passed}
-use Rattle.sheet.specs.Told.{passed, kindAt}
-use Rattle.sheet.proofs.Tells.{fault-passed, none-passed}
+use Rattle.sheet.specs.declared.inspect.Stretch.{Stretch}
+use Rattle.sheet.specs.Fields.{entryIn, entriesIn, Unpacked}
+use Rattle.sheet.specs.Told.{passed, kindAt, Scanned, Stretched}
+use Rattle.sheet.proofs.Tells.{passed-fault, passed-none, after-none, after-fault}
 
 -- the entries from node i on are its own and those after it
-pub entries-from : (s : List ℕ) (i : ℕ) → i < countOf s → drop i (entriesOf s) ≡ entryAt s i ∷ drop (suc i) (entriesOf s)
-unfolding entriesOf
-entries-from s i h =
-    drop-cons (tabulate (entryAt s) (countOf s)) i (entry 0 0) (omega (arith, length-tabulate (entryAt s) (countOf s)))
-    ∙ ap (λ (e : Entry). e ∷ drop (suc i) (tabulate (entryAt s) (countOf s))) (getD-tabulate (entryAt s) (countOf s) i (entry 0 0) h)
+pub entries-from : (fs : List ℕ) (i : ℕ) → i < length fs → drop i (entriesIn fs) ≡ entryIn (getD fs i 0) ∷ drop (suc i) (entriesIn fs)
+entries-from [] i h = absurd (not-suc-le-zero h)
+entries-from (x ∷ fs) zero h = refl
+entries-from (x ∷ fs) (suc i) h = entries-from fs i (le-of-suc-le-suc h)
 
-pub entries-end : (s : List ℕ) (i : ℕ) → i ≡ countOf s → drop i (entriesOf s) ≡ []
-entries-end s i e = rw (e ∙ sym (length-entriesOf s)) (drop-length (entriesOf s))
-
-left-le : (b : ℕ) (e : Entry) → left (kindAt e) b ≤ suc b
-unfolding kindAt left
-left-le b (entry f a) = go (kindIn f)
-  where
-    go : (k : Kind) → left k b ≤ suc b
-    go B = omega arith
-    go M = omega arith
-    go E = omega arith
-    go N = omega arith
+pub entries-end : (fs : List ℕ) (i : ℕ) → i ≡ length fs → drop i (entriesIn fs) ≡ []
+entries-end fs i e = rw (e ∙ sym (length-map fs entryIn)) (drop-length (entriesIn fs))
 
 scan-cons : (ku kl i b : ℕ) (e : Entry) (es : List Entry)
     → scan ku kl i b (e ∷ es) ≡ orElse (faultAt ku kl i b e) (scan ku kl (suc i) (left (kindAt e) b) es)
@@ -47,52 +44,111 @@ open-cons : (b : ℕ) (e : Entry) (es : List Entry) → leftOpen b (e ∷ es) �
 unfolding leftOpen kindAt
 open-cons b (entry f a) es = refl
 
-pub middle-is : (ku kl : ℕ) (s : List ℕ) → ku ≡ upperOf s → kl ≡ lowerOf s → middle s ≡ scan ku kl 1 0 (entriesOf s)
-unfolding middle
-middle-is ku kl s p q = rw (p, q)
+module _ (ku kl : ℕ) (fs : List ℕ) where
+  pub scan-start : Scanned ku kl fs 0 0
+  scan-start = record { within = omega arith; few = omega arith; faults = refl; opens = refl }
 
--- the nodes before i have no fault, and leave b nets open
-pub record Scanned (ku kl : ℕ) (s : List ℕ) (i b : ℕ) : Type 0 where
-  pub within : i ≤ countOf s
-  pub few : b ≤ i
-  pub same : scan ku kl (i + 1) b (drop i (entriesOf s)) ≡ scan ku kl 1 0 (entriesOf s)
-  pub rest : leftOpen b (drop i (entriesOf s)) ≡ leftOpen 0 (entriesOf s)
+  module _ (i b : ℕ) (h : i < length fs) (m : Scanned ku kl fs i b) where
+    -- node i's fields
+    abbrev x : ℕ
+    x = getD fs i 0
 
-module _ (ku kl : ℕ) (s : List ℕ) where
-  pub scan-start : Scanned ku kl s 0 0
-  scan-start = record { within = omega arith; few = omega arith; same = refl; rest = refl }
+    abbrev k : Kind
+    k = kindIn (x / 16)
 
-  module _ (i b : ℕ) (h : i < countOf s) (m : Scanned ku kl s i b) where
-    here : orElse (faultAt ku kl (i + 1) b (entryAt s i)) (scan ku kl (suc (i + 1)) (left (kindAt (entryAt s i)) b) (drop (suc i) (entriesOf s)))
-        ≡ scan ku kl 1 0 (entriesOf s)
-    here =
-        sym (scan-cons ku kl (i + 1) b (entryAt s i) (drop (suc i) (entriesOf s)))
-        ∙ ap (scan ku kl (i + 1) b) (sym (entries-from s i h))
-        ∙ m .same
+    -- the node is legal: the walk goes on
+    pub scan-step : FitsAt k ku kl (suc (x % 16)) (counted k b) → {b′ : ℕ} → b′ ≡ left k b → Scanned ku kl fs (i + 1) b′
+    unfolding entryIn kindAt
+    scan-step f {b′} e =
+        let clear : faultAt ku kl (suc i) b (entryIn x) ≡ none = fits-clear ku kl (suc i) b (x / 16) (x % 16) f in
+        rw (add-one i, e)
+        (record {
+          within = h;
+          few = omega (arith, left-le k b, f .sum);
+          faults =
+              sym (after-none (scan ku kl (suc (suc i)) (left k b) (drop (suc i) (entriesIn fs))) clear)
+              ∙ sym (scan-cons ku kl (suc i) b (entryIn x) (drop (suc i) (entriesIn fs)))
+              ∙ ap (scan ku kl (suc i) b) (sym (entries-from fs i h))
+              ∙ m .faults;
+          opens = sym (open-cons b (entryIn x) (drop (suc i) (entriesIn fs))) ∙ ap (leftOpen b) (sym (entries-from fs i h)) ∙ m .opens;
+        })
 
-    -- r was told at node i
-    module _ {r : Passed} (told : r ≡ passed (faultAt ku kl (i + 1) b (entryAt s i)) (left (kindAt (entryAt s i)) b)) where
-      pub scan-fault : {e : Fault} → r ≡ Passed.Unfit e → scan ku kl 1 0 (entriesOf s) ≡ some e
-      unfolding orElse
-      scan-fault q = sym here ∙ rw (fault-passed (faultAt ku kl (i + 1) b (entryAt s i)) (left (kindAt (entryAt s i)) b) told q)
+    -- it is not: the walk stops before it
+    pub scan-stops : (FitsAt k ku kl (suc (x % 16)) (counted k b) → ⊥) → Stretched ku kl fs (record { nodes = i; nets = b })
+    unfolding entryIn
+    scan-stops n = record { so-far = m; stops = λ l e. n (clear-fits ku kl (suc i) b (x / 16) (x % 16) e) }
 
-      pub scan-step : {b′ : ℕ} → r ≡ Passed.Open b′ → Scanned ku kl s (i + 1) b′
-      unfolding orElse
-      scan-step {b′} o =
-          let w = none-passed (faultAt ku kl (i + 1) b (entryAt s i)) (left (kindAt (entryAt s i)) b) told o in
-          let q = w .1 in
-          record {
-            within = omega arith;
-            few = omega (arith, left-le b (entryAt s i), m .few);
-            same = ap₂ (λ (j k : ℕ). scan ku kl j b′ (drop k (entriesOf s))) (add-one (i + 1)) (add-one i) ∙ (rw (w .0, q) at here);
-            rest =
-                ap (λ (k : ℕ). leftOpen b′ (drop k (entriesOf s))) (add-one i)
-                ∙ ap (λ (x : ℕ). leftOpen x (drop (suc i) (entriesOf s))) (sym q)
-                ∙ sym (open-cons b (entryAt s i) (drop (suc i) (entriesOf s)))
-                ∙ ap (leftOpen b) (sym (entries-from s i h))
-                ∙ m .rest;
-          }
+  pub scan-end : (i b : ℕ) → length fs ≤ i → Scanned ku kl fs i b → Stretched ku kl fs (record { nodes = i; nets = b })
+  scan-end i b l m = record { so-far = m; stops = λ h. absurd (omega arith) }
 
-  pub scan-end : (i b : ℕ) → i ≡ countOf s → Scanned ku kl s i b → (scan ku kl 1 0 (entriesOf s) ≡ none) × (leftOpen 0 (entriesOf s) ≡ b)
+-- what the table of legal places tells of a node
+module _ {ku kl : ℕ} {l : List ℕ} (p : Places ku kl l) {x b : ℕ} (low : x < 64) (few : b < 16) {t : Bool} (told : t ≡ marked (getD l (16 * (x / 16) + b) 0) (x % 16)) where
+  same : t ≡ fitsAt (kindIn (x / 16)) ku kl (suc (x % 16)) (counted (kindIn (x / 16)) b)
+  same = told ∙ p .places (x / 16) (x % 16) b (omega arith) few
+
+  pub legal-fits : t ≡ true → FitsAt (kindIn (x / 16)) ku kl (suc (x % 16)) (counted (kindIn (x / 16)) b)
+  legal-fits e = fitsAt→ ku kl (suc (x % 16)) (counted (kindIn (x / 16)) b) (kindIn (x / 16)) (rw (sym same ∙ e) tt)
+
+  pub illegal-never : t ≡ false → FitsAt (kindIn (x / 16)) ku kl (suc (x % 16)) (counted (kindIn (x / 16)) b) → ⊥
+  illegal-never e f = rw (sym same ∙ e) at (→fitsAt ku kl (suc (x % 16)) (counted (kindIn (x / 16)) b) (kindIn (x / 16)) f)
+
+-- ---- the nets open after a node, counted without a branch
+
+pub one-le : (x k : ℕ) {r : ℕ} → r ≡ pick (eqb x k) 1 0 → r ≤ 1
+unfolding pick
+one-le x k e = go (eqb x k) e
+  where
+    go : (t : Bool) {r : ℕ} → r ≡ pick t 1 0 → r ≤ 1
+    go true e = omega arith
+    go false e = omega arith
+
+pub left-is : (f b : ℕ) → (f ≡ 2 → 0 < b) → {p q : ℕ} → p ≡ pick (eqb f 0) 1 0 → q ≡ pick (eqb f 2) 1 0 → (q ≤ b + p) × (b + p - q ≡ left (kindIn f) b)
+unfolding pick left kindIn
+left-is zero b h e₁ e₂ = omega arith
+left-is (suc zero) b h e₁ e₂ = omega arith
+left-is (suc (suc zero)) b h e₁ e₂ = omega (arith, h refl)
+left-is (suc (suc (suc f))) b h e₁ e₂ =
+    let p≡ = rw (ne-eqb (suc (suc (suc f))) 0 (omega arith)) at e₁ in
+    let q≡ = rw (ne-eqb (suc (suc (suc f))) 2 (omega arith)) at e₂ in
+    omega arith
+
+-- a net that ends is open
+pub ends-open : {ku kl f p b : ℕ} → FitsAt (kindIn f) ku kl (suc p) (counted (kindIn f) b) → f ≡ 2 → 0 < b
+unfolding kindIn last counted
+ends-open {ku} {kl} {f} {p} {b} h e =
+    let g : FitsAt E ku kl (suc p) b = rw e at h in
+    omega (arith, g .high)
+
+-- ---- what is told from the nodes before the first fault
+
+module _ {ku kl : ℕ} {fs : List ℕ} {r : Stretch} (m : Stretched ku kl fs r) where
+  -- a fault is asked of the next node, whose number counts from 1
+  pub stretch-asked : r .nodes < length fs → faultAt ku kl (r .nodes + 1) (r .nets) (entryIn (getD fs (r .nodes) 0)) ≡ none → ⊥
+  stretch-asked h = rw (add-one (r .nodes)) (m .stops h)
+
+  pub stretch-fault : r .nodes < length fs → {e : Fault} → faultAt ku kl (r .nodes + 1) (r .nets) (entryIn (getD fs (r .nodes) 0)) ≡ some e
+      → Passed.Unfit e ≡ passed (scan ku kl 1 0 (entriesIn fs)) (leftOpen 0 (entriesIn fs))
+  stretch-fault h {e} q =
+      let i : ℕ = r .nodes in
+      let b : ℕ = r .nets in
+      let own : Entry = entryIn (getD fs i 0) in
+      let told : faultAt ku kl (suc i) b own ≡ some e = rw (add-one i) at q in
+      passed-fault (leftOpen 0 (entriesIn fs))
+      (sym (m .so-far .faults)
+      ∙ ap (scan ku kl (suc i) b) (entries-from fs i h)
+      ∙ scan-cons ku kl (suc i) b own (drop (suc i) (entriesIn fs))
+      ∙ after-fault (scan ku kl (suc (suc i)) (left (kindAt own) b) (drop (suc i) (entriesIn fs))) told)
+
+  pub stretch-end : length fs ≤ r .nodes → Passed.Open (r .nets) ≡ passed (scan ku kl 1 0 (entriesIn fs)) (leftOpen 0 (entriesIn fs))
   unfolding scan leftOpen
-  scan-end i b e m = (sym (m .same) ∙ rw (entries-end s i e), sym (m .rest) ∙ rw (entries-end s i e))
+  stretch-end h =
+      let none-left = entries-end fs (r .nodes) (omega (arith, m .so-far .within)) in
+      let clear : scan ku kl 1 0 (entriesIn fs) ≡ none = sym (m .so-far .faults) ∙ rw none-left in
+      let nets : leftOpen 0 (entriesIn fs) ≡ r .nets = sym (m .so-far .opens) ∙ rw none-left in
+      passed-none (r .nets) clear ∙ ap (passed (scan ku kl 1 0 (entriesIn fs))) (sym nets)
+
+-- what is told of a sheet's unpacked fields is told of the sheet
+pub told-sheet : (s : List ℕ) {fields : List ℕ} {n ku kl : ℕ} → Unpacked s fields → n ≡ countOf s → ku ≡ upperOf s → kl ≡ lowerOf s → {r : Passed}
+    → r ≡ passed (scan ku kl 1 0 (entriesIn (take n fields))) (leftOpen 0 (entriesIn (take n fields))) → r ≡ passed (middle s) (leftOpen 0 (entriesOf s))
+unfolding middle
+told-sheet s u e p q t = t ∙ rw (e, p, q, u .entries)

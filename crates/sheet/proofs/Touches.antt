@@ -1,6 +1,6 @@
 -- One node of a walk, by its kind: what `Ready` gives the functions of an order, and what they make `Touched`.
 use mathlib.Core.Path.{_≡_, refl, ap, _∙_}
-use Prim.Native.Nat.{ℕ, zero, suc, _+_, _-_, _≤_, _<_}
+use Prim.Native.Nat.{ℕ, zero, suc, _+_, _-_, _/_, _%_, _≤_, _<_}
 use native.Mathlib.Omega.{arith}
 use lib.ListN.{getD}
 use Rattle.rules.specs.Basic.{put, cut}
@@ -10,6 +10,7 @@ use Rattle.rules.specs.Sheet.{kindIn, Entry, entry, begun, netAt, label}
 use Rattle.rules.specs.Judgement.{left}
 use Rattle.street.specs.declared.Order.{Order}
 use Rattle.street.specs.Order.{listed, Sound, Inserted, Removed}
+use Rattle.sheet.specs.Fields.{entryIn}
 use Rattle.sheet.specs.Told.{kindAt, aboveAt}
 use Rattle.sheet.specs.Walk.{Ready, Touched}
 
@@ -17,6 +18,10 @@ use Rattle.sheet.specs.Walk.{Ready, Touched}
 pub record At (e : Entry) (k : Kind) (a : ℕ) : Type 0 where
   pub kind : kindAt e ≡ k
   pub above : aboveAt e ≡ a
+
+pub entry-in : (x : ℕ) → entryIn x ≡ entry (x / 16) (x % 16)
+unfolding entryIn
+entry-in x = refl
 
 module _ {e : Entry} {f a : ℕ} (p : e ≡ entry f a) where
   pub at-begins : f ≡ 0 → At e B a

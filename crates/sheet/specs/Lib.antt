@@ -1,3 +1,4 @@
+pub mod Fields
 pub mod Told
 pub mod Walk
 pub mod GivenBack

@@ -1,17 +1,20 @@
 -- What the judging functions say, by what the judgement of a sheet finds.
+use mathlib.Core.Path.{_≡_}
 use mathlib.Core.Option.{Option, none, some}
 use mathlib.Core.List.{List}
-use Prim.Native.Nat.{ℕ, suc, _+_, _*_, _≤_, _<_}
-use lib.ListN.{length}
+use Prim.Native.Nat.{ℕ, suc, _+_, _≤_, _<_}
+use lib.ListN.{length, getD, drop}
 use lib.Dec.{leb, ltb}
 use Rattle.rules.specs.declared.Fault.{Fault}
 use Rattle.rules.specs.Basic.{keep, orElse}
 use Rattle.rules.specs.Row.{Kind}
 use Rattle.rules.specs.Street.{limits, blankLimits}
 use Rattle.rules.specs.Sheet.{kindIn, Entry, entry}
-use Rattle.rules.specs.Judgement.{broken}
+use Rattle.rules.specs.Judgement.{broken, faultAt, scan, leftOpen}
 use Rattle.sheet.specs.declared.inspect.Inspected.{Inspected}
 use Rattle.sheet.specs.declared.inspect.Passed.{Passed}
+use Rattle.sheet.specs.declared.inspect.Stretch.{Stretch}
+use Rattle.sheet.specs.Fields.{entryIn, entriesIn}
 
 -- a fault, or none
 unfoldable pub told : Option Fault → Inspected
@@ -38,7 +41,14 @@ kindAt (entry f a) = kindIn f
 unfoldable pub aboveAt : Entry → ℕ
 aboveAt (entry f a) = a
 
--- node i, from 0, can stand in a sheet, and its entry lies in the bytes
-pub record InSheet (s : List ℕ) (i : ℕ) : Type 0 where
-  pub few : i < 512
-  pub within : 16 + 6 * (i + 1) ≤ 8 * length s
+-- the nodes before i have no fault, and leave b nets open: what is found from there on is what is found of all
+pub record Scanned (ku kl : ℕ) (fs : List ℕ) (i b : ℕ) : Type 0 where
+  pub within : i ≤ length fs
+  pub few : b ≤ ku + kl
+  pub faults : scan ku kl (suc i) b (drop i (entriesIn fs)) ≡ scan ku kl 1 0 (entriesIn fs)
+  pub opens : leftOpen b (drop i (entriesIn fs)) ≡ leftOpen 0 (entriesIn fs)
+
+-- r has the nodes before the first fault, and the nets open after them: the next node, where there is one, has a fault
+pub record Stretched (ku kl : ℕ) (fs : List ℕ) (r : Stretch) : Type 0 where
+  pub so-far : Scanned ku kl fs (r .nodes) (r .nets)
+  pub stops : r .nodes < length fs → faultAt ku kl (suc (r .nodes)) (r .nets) (entryIn (getD fs (r .nodes) 0)) ≡ none → ⊥

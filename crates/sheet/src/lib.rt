@@ -1,4 +1,5 @@
-// Sheets as every part reads them: judged, read back into a row, and compared with a row.
+// Sheets as every part reads them: unpacked, judged, read back into a row, and compared with a row.
 pub mod agreement;
 pub mod inspect;
+pub mod layout;
 pub mod reader;

@@ -3,18 +3,18 @@ use crate::inspect::Inspected;
 use crate::inspect::crowded;
 use crate::inspect::inspect_body;
 use crate::inspect::inspect_head;
-use bits::get_bits;
+use crate::layout::count_of;
 use rules::Fault;
 use rules::Reading;
 use street::Order;
 ghost use mathlib.Core.Path.{_≡_};
 ghost use mathlib.Core.Option.{none};
-ghost use Prim.Native.Nat.{_≤_};
+ghost use Prim.Native.Nat.{ℕ, _≤_};
 ghost use lib.ListN.{length};
-ghost use Rattle.rules.specs.Sheet.{countOf, entryAt, rowOf};
+ghost use Rattle.rules.specs.Sheet.{countOf};
 ghost use Rattle.rules.specs.Judgement.{head, judge};
 ghost use Rattle.rules.specs.Answers.{written};
-ghost use Rattle.sheet.specs.Told.{InSheet};
+ghost use Rattle.sheet.specs.Fields.{entryIn, rowIn, Unpacked, Faultless};
 ghost use Rattle.sheet.specs.Walk.{Ready, Touched};
 ghost use Rattle.sheet.specs.GivenBack.{GivenBack};
 
@@ -34,42 +34,44 @@ fn read_body(s: &[u8], row: &mut [u8]) -> Reading
     requires { ⌜ head (now s) ≡ none ⌝ }
     ensures { λ r. ⌜ GivenBack (now (s .entry)) (now (row .entry)) r (now (row .exit)) ⌝ }
 {
-    let n = get_bits(s, 6, 10) as usize;
+    let n = count_of(s);
     if row.len() < n {
         return Reading::RowShort;
     }
-    let found = inspect_body(s);
+    let mut fields = [0u8; 512];
+    let found = inspect_body(s, &mut fields);
     match found {
-        Inspected::Legal => read_legal(s, row),
+        Inspected::Legal => read_legal(s, &fields, row),
         Inspected::Unfit(e) => Reading::Unfit(e),
     }
 }
 
-// 23 and then the row, of a sheet without another fault.
-fn read_legal(s: &[u8], row: &mut [u8]) -> Reading
-    requires { ⌜ judge (now s) ≡ none ⌝ }
+// 23 and then the row, of a sheet without another fault, whose fields are unpacked.
+fn read_legal(s: &[u8], fields: &[u8], row: &mut [u8]) -> Reading
+    requires { ⌜ (judge (now s) ≡ none) × Unpacked (now s) (now fields) ⌝ }
     requires { ⌜ countOf (now s) ≤ length (now row) ⌝ }
     ensures { λ r. ⌜ GivenBack (now (s .entry)) (now (row .entry)) r (now (row .exit)) ⌝ }
 {
-    if crowded(s) {
+    let n = count_of(s);
+    let nodes = &fields[..n];
+    if crowded(nodes) {
         return Reading::Unfit(Fault::Nets);
     }
-    let n = get_bits(s, 6, 10) as usize;
-    write_row(s, row);
+    write_row(nodes, row);
     Reading::Row(n)
 }
 
-// Writes the row of a sheet without a fault.
-fn write_row(s: &[u8], row: &mut [u8])
-    requires { ⌜ (judge (now s) ≡ none) × (countOf (now s) ≤ length (now row)) ⌝ }
-    ensures { λ _. ⌜ now (row .exit) ≡ written (rowOf (now (s .entry))) (now (row .entry)) ⌝ }
+// Writes the row of nodes without a fault.
+fn write_row(fields: &[u8], row: &mut [u8])
+    requires { ⌜ ((ku : ℕ) × (kl : ℕ) × Faultless ku kl (now fields)) ⌝ }
+    requires { ⌜ length (now fields) ≤ length (now row) ⌝ }
+    ensures { λ _. ⌜ now (row .exit) ≡ written (rowIn (now (fields .entry))) (now (row .entry)) ⌝ }
 {
-    let n = get_bits(s, 6, 10) as usize;
     let mut order = Order::new();
     let mut begun = 0;
     let mut i = 0;
-    while i < n {
-        let step = touch(s, i, order, begun);
+    while i < fields.len() {
+        let step = touch(fields[i], order, begun);
         row[i] = step.label;
         order = step.order;
         begun = step.begun;
@@ -85,11 +87,10 @@ pub struct Step {
 }
 
 // One node of a walk, from the order before it and the number of nets begun there.
-pub fn touch(s: &[u8], i: usize, order: Order, begun: usize) -> Step
-    requires { ⌜ InSheet (now s) i × Ready (entryAt (now s) i) order begun ⌝ }
-    ensures { λ r. ⌜ Touched (entryAt (now (s .entry)) i) order begun r ⌝ }
+fn touch(fields: u8, order: Order, begun: usize) -> Step
+    requires { ⌜ Ready (entryIn fields) order begun ⌝ }
+    ensures { λ r. ⌜ Touched (entryIn fields) order begun r ⌝ }
 {
-    let fields = get_bits(s, 16 + 6 * i, 6);
     let kind = fields / 16;
     let above = (fields % 16) as usize;
     match kind {

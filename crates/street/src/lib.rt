@@ -1,4 +1,6 @@
 // The state of the street rules: an order of open nets by value, and the limits at a node.
+pub mod places;
+
 use rules::Limits;
 ghost use mathlib.Core.Path.{_≡_};
 ghost use mathlib.Core.List.{[], _∷_, _++_};
@@ -74,7 +76,7 @@ impl Order {
     }
 }
 
-// Cells with x put behind k others; what the last one held is lost. As one number, so that an order stays in a register.
+// Cells with x put behind k others; what the last one held is lost. As one number, so that there is no loop and no branch.
 fn with(nets: [u8; CAPACITY], k: usize, x: u8) -> [u8; CAPACITY]
     requires { ⌜ (length nets ≡ capacity) × (k < capacity) ⌝ }
     ensures { λ r. ⌜ r ≡ take capacity (put k x nets) ⌝ }

@@ -1,92 +1,52 @@
--- `sheet::reader::touch` meets its contract: both fields are read as one of six bits, and each kind does what its law says. Assumes nothing.
-use native.Mathlib.Omega.{arith}
-use Rattle.sheet.proofs.Wires.{got-entry}
-use Rattle.sheet.proofs.Touches.{at-begins, at-goes-on, at-ends, at-blank, ready-begins, ready-goes-on, ready-ends, touched-begins, touched-goes-on, touched-ends, touched-blank}
+-- `sheet::reader::touch` meets its contract: each kind does what its law says. Assumes nothing.
 use borrow.Author.Needs.{needs}
+use native.Mathlib.Omega.{arith}
+use Rattle.sheet.proofs.Touches.{entry-in, at-begins, at-goes-on, at-ends, at-blank, ready-begins, ready-goes-on, ready-ends, touched-begins, touched-goes-on, touched-ends, touched-blank}
 use Rattle.sheet.proofs.reader.touch.Statement.{statement}
 use Rattle.sheet.proofs.reader.touch.Tie as tie
-
-mul-get-bits : tie.Need-mul-get-bits
-mul-get-bits c = search needs
-
-add-get-bits : tie.Need-add-get-bits
-add-get-bits c = search needs
-
-get-bits-requires : tie.Need-get-bits-requires
-get-bits-requires c κs = search needs
 
 cast-above : tie.Need-cast-above
 cast-above c = search needs
 
 cast-label : tie.Need-cast-label
-cast-label c =
-    let b = c .before .before .before in
-    let t = at-begins (got-entry (b .pre .0) (c .before .get-bits .ensures)) (c .match .keys1) in
-    let r = ready-begins t (b .pre .1) in
-    omega arith
+cast-label c = let r = ready-begins (at-begins (entry-in (c .before .args .fields)) (c .match .keys1)) (c .before .pre) in omega arith
 
 insert-requires : tie.Need-insert-requires
 insert-requires c κs =
-    let b = c .before .before .before in
-    let t = at-begins (got-entry (b .pre .0) (c .before .get-bits .ensures)) (c .match .keys1) in
-    let r = ready-begins t (b .pre .1) in
-    (b .pre .1 .sound, r .0, r .1)
+    let b = c .before in
+    let r = ready-begins (at-begins (entry-in (b .args .fields)) (c .match .keys1)) (b .pre) in
+    (b .pre .sound, r .0, r .1)
 
 add-begun : tie.Need-add-begun
-add-begun c =
-    let b = c .before .before .before .before in
-    let t = at-begins (got-entry (b .pre .0) (c .before .before .get-bits .ensures)) (c .before .match .keys1) in
-    let r = ready-begins t (b .pre .1) in
-    omega arith
+add-begun c = let r = ready-begins (at-begins (entry-in (c .before .before .args .fields)) (c .before .match .keys1)) (c .before .before .pre) in omega arith
 
 label-requires : tie.Need-label-requires
-label-requires c κs =
-    let b = c .before .before .before in
-    let t = at-goes-on (got-entry (b .pre .0) (c .before .get-bits .ensures)) (c .match .keys2) in
-    (b .pre .1 .sound, ready-goes-on t (b .pre .1))
+label-requires c κs = let b = c .before in (b .pre .sound, ready-goes-on (at-goes-on (entry-in (b .args .fields)) (c .match .keys2)) (b .pre))
 
 label-requires-2 : tie.Need-label-requires-2
-label-requires-2 c κs =
-    let b = c .before .before .before in
-    let t = at-ends (got-entry (b .pre .0) (c .before .get-bits .ensures)) (c .match .keys3) in
-    (b .pre .1 .sound, ready-ends t (b .pre .1))
+label-requires-2 c κs = let b = c .before in (b .pre .sound, ready-ends (at-ends (entry-in (b .args .fields)) (c .match .keys3)) (b .pre))
 
 remove-requires : tie.Need-remove-requires
-remove-requires c κs =
-    let b = c .before .before .before .before in
-    let t = at-ends (got-entry (b .pre .0) (c .before .before .get-bits .ensures)) (c .before .match .keys3) in
-    (b .pre .1 .sound, ready-ends t (b .pre .1))
+remove-requires c κs = let b = c .before .before in (b .pre .sound, ready-ends (at-ends (entry-in (b .args .fields)) (c .before .match .keys3)) (b .pre))
 
 returns : tie.Need-returns
-returns c =
-    let b = c .before .before .before .before in
-    let t = at-begins (got-entry (b .pre .0) (c .before .before .get-bits .ensures)) (c .before .match .keys1) in
-    touched-begins t (c .insert .ensures)
+returns c = touched-begins (at-begins (entry-in (c .before .before .args .fields)) (c .before .match .keys1)) (c .insert .ensures)
 
 returns-2 : tie.Need-returns-2
 returns-2 c =
-    let b = c .before .before .before .before in
-    let t = at-goes-on (got-entry (b .pre .0) (c .before .before .get-bits .ensures)) (c .before .match .keys2) in
-    touched-goes-on t (b .pre .1 .sound) (c .label .ensures)
+    let b = c .before .before in
+    touched-goes-on (at-goes-on (entry-in (b .args .fields)) (c .before .match .keys2)) (b .pre .sound) (c .label .ensures)
 
 returns-3 : tie.Need-returns-3
-returns-3 c =
-    let b = c .before .before .before .before .before in
-    let t = at-ends (got-entry (b .pre .0) (c .before .before .before .get-bits .ensures)) (c .before .before .match .keys3) in
-    touched-ends t (c .before .label2 .ensures) (c .remove .ensures)
+returns-3 c = touched-ends (at-ends (entry-in (c .before .before .before .args .fields)) (c .before .before .match .keys3)) (c .before .label2 .ensures) (c .remove .ensures)
 
 returns-4 : tie.Need-returns-4
-returns-4 c =
-    let b = c .before .before .before in
-    touched-blank (at-blank (got-entry (b .pre .0) (c .before .get-bits .ensures)) (omega arith)) (b .pre .1 .sound)
+returns-4 c = touched-blank (at-blank (entry-in (c .before .args .fields)) (omega arith)) (c .before .pre .sound)
 
 pub touch-spec : {M : Type 1} → statement M
 touch-spec =
     tie.close
     (tie.spec
-    mul-get-bits
-    add-get-bits
-    get-bits-requires
     cast-above
     cast-label
     insert-requires
