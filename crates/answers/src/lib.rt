@@ -1,11 +1,13 @@
 // The number and the place of each answer, for callers that take numbers.
+#![tactic(auto)]
+
 ghost use Rattle.std.specs.Prelude.{◌≡◌};
 ghost use Rattle.rules.specs.Answers.{says, limit_number, fault_said, route_said, read_said, draw_said};
 
 use rules::{Drawing, Fault, Limits, Reading, Routing};
 
 // An answer in numbers: 0 or the cause, and the node, the count or 0 that goes with it.
-#[derive(Drop)]
+#[derive(Clone, Copy)]
 pub struct Said {
     pub number: u32,
     pub place: usize,

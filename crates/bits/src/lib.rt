@@ -1,5 +1,7 @@
 // Fields of up to 16 bits in bytes, most significant bit first, read and written with no loop: a field lies in the three bytes from the
 // one that holds its first bit.
+#![tactic(auto)]
+
 ghost use Rattle.std.specs.Prelude.{◌≡◌, ◌+◌, ◌*◌, ◌/◌, ◌%◌, ◌^◌, ◌≤◌, ◌<◌, length, get_or, set};
 ghost use Rattle.std.proofs.lemmas.List.Edits.{sets};
 ghost use Rattle.bits.specs.Access.{Inside, Got, Put};

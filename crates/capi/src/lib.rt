@@ -1,4 +1,6 @@
 // The entry points as C calls them, under the names of include/niraflue.h. A slice is a pointer and a length there; an answer is its number · 2^32 + its place.
+#![tactic(auto)]
+
 ghost use Rattle.std.specs.Prelude.{◌≡◌, ◌<◌};
 ghost use Rattle.rules.specs.Answers.{says, route_said, read_said, draw_said, agrees as agreeing};
 ghost use Rattle.router.specs.Routed.{Routed};

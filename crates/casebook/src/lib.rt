@@ -1,4 +1,6 @@
 // Cases asked of router, reader, agreement test, drawer and listing. Each is a line of text; what was answered and written is printed, and tested against the line.
+#![tactic(auto)]
+
 pub mod agreement;
 pub mod drawing;
 mod judged;
@@ -18,14 +20,14 @@ use sheets::{Lent, sheet_case};
 use whole::whole_case;
 
 // How many cases were asked, and how many of them had an answer or a byte that differs from what is wanted.
-#[derive(Drop)]
+#[derive(Clone, Copy)]
 pub struct Tally {
     pub cases: u64,
     pub wrong: u64,
 }
 
 // Whom the lines of a text ask.
-#[derive(Drop)]
+#[derive(Clone, Copy)]
 pub enum Asked {
     Router,
     Reader,

@@ -3,7 +3,7 @@
 ghost use Rattle.std.specs.Prelude.{◌<◌};
 
 // What a buffer is to hold.
-#[derive(Drop)]
+#[derive(Clone, Copy)]
 pub enum Pairs {
     // The row.
     Row,

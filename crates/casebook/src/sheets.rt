@@ -8,7 +8,7 @@ use crate::reading::reader_row;
 use fields::bytes;
 
 // What is lent, and so who is asked.
-#[derive(Drop)]
+#[derive(Clone, Copy)]
 pub enum Lent {
     // A row, to the reader.
     Row,

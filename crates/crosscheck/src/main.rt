@@ -1,4 +1,6 @@
 // Tests the router, the reader, the agreement test and the drawer against a second router.
+#![tactic(auto)]
+
 mod joinings;
 
 use randomtrials::{rows, sheets};

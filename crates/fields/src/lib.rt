@@ -1,16 +1,18 @@
 // The fields of a line: bytes in hex or as they stand, with `-` for none, and decimal numbers of at most five digits, one space apart.
+#![tactic(auto)]
+
 ghost use Rattle.std.specs.Prelude.{◌≡◌, ◌*◌, ◌≤◌, ◌<◌, length};
 ghost use Rattle.fields.specs.Text.{Found, Part, Taken};
 
 // A part of a line, from an index up to another.
-#[derive(Drop)]
+#[derive(Clone, Copy)]
 pub struct Span {
     pub from: usize,
     pub to: usize,
 }
 
 // How many bytes a field has, and whether it is in order.
-#[derive(Drop)]
+#[derive(Clone, Copy)]
 pub struct Given {
     pub count: usize,
     pub is_good: bool,

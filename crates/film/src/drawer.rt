@@ -19,7 +19,7 @@ use sheet::layout::{count_of, upper_of};
 const PITCH: usize = 16;
 
 // The film so far, and the number of nets begun.
-#[derive(Drop)]
+#[derive(Clone, Copy)]
 pub struct Walk {
     pub pen: Pen,
     pub begun: usize,

@@ -1,4 +1,6 @@
 // The drawer: from a sheet to a film of wire records.
+#![tactic(auto)]
+
 pub mod drawer;
 mod levels;
 pub mod moves;

@@ -10,7 +10,7 @@ use crate::records::{put_across, put_wall};
 use crate::wires::Wires;
 
 // The film so far: the open wires, the next free column, and the number of records drawn.
-#[derive(Drop)]
+#[derive(Clone, Copy)]
 pub struct Pen {
     pub wires: Wires,
     pub column: u16,
@@ -18,7 +18,7 @@ pub struct Pen {
 }
 
 // A node of a sheet: its kind field, the number of wires in the upper street, and of those above it.
-#[derive(Drop)]
+#[derive(Clone, Copy)]
 pub struct Node {
     pub kind: u8,
     pub upper: usize,

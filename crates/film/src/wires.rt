@@ -8,7 +8,7 @@ ghost use Rattle.film.specs.Wires.{wire, Sound, Emptied, Inserted, Removed, Move
 use street::CAPACITY;
 
 // The open wires from top to bottom, with their count. Cells past the count are free.
-#[derive(Drop)]
+#[derive(Clone, Copy)]
 pub struct Wires {
     pub nets: [u8; CAPACITY],
     pub levels: [i8; CAPACITY],

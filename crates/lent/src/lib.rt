@@ -1,4 +1,6 @@
 // Lent buffers: filled with a pattern before a call, and looked at afterwards.
+#![tactic(auto)]
+
 pub mod films;
 
 // What stands at an index of a buffer before a call. It is never 0.

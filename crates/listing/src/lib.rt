@@ -1,4 +1,6 @@
 // The text of the router's answer: the whole job of `listrow` between its input and its output.
+#![tactic(auto)]
+
 mod nodes;
 mod put;
 

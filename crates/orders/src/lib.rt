@@ -1,4 +1,6 @@
 // The passes of the router over sets of orders, forward and back, and the bytes that the sets stand in.
+#![tactic(auto)]
+
 pub mod pass;
 pub mod reach;
 pub mod set;

@@ -1,3 +1,5 @@
 // Rows and sheets by lot, for the trials.
+#![tactic(auto)]
+
 pub mod rows;
 pub mod sheets;

@@ -1,4 +1,6 @@
 // The router: a row and two street widths to the first placing's sheet, or a true refusal.
+#![tactic(auto)]
+
 mod search;
 mod streets;
 mod walk;

@@ -4,7 +4,7 @@ ghost use Rattle.rules.specs.Sheet.{takes};
 ghost use Rattle.router.specs.Routed.{classed};
 
 // The classes of street pairs.
-#[derive(Drop)]
+#[derive(Clone, Copy)]
 pub enum Streets {
     // Both streets have at most three tracks.
     Narrow,

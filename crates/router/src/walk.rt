@@ -13,7 +13,7 @@ use steps::rank::{Stop, locate};
 use street::Order;
 
 // How many wires stand above a node, and the rank and the order after it.
-#[derive(Drop)]
+#[derive(Clone, Copy)]
 struct Turn {
     place: u8,
     rank: usize,

@@ -40,7 +40,7 @@ pub fn tell<'a>(
 }
 
 // What a node does: its kind field, whether it begins a net where no more can be open, and where not the age of its net and how many nets are open after it.
-#[derive(Drop)]
+#[derive(Clone, Copy)]
 struct Turn {
     kind: u8,
     full: bool,

@@ -14,7 +14,7 @@ use street::places::{is_legal, legal_places};
 use street::{blank_limits, street_limits};
 
 // What the judgement of a sheet finds.
-#[derive(Drop)]
+#[derive(Clone, Copy)]
 pub enum Inspected {
     // No fault.
     Legal,
@@ -23,7 +23,7 @@ pub enum Inspected {
 }
 
 // What the tests at nodes find.
-#[derive(Drop)]
+#[derive(Clone, Copy)]
 pub enum Passed {
     // No fault: so many nets are open then.
     Open(usize),
@@ -32,7 +32,7 @@ pub enum Passed {
 }
 
 // The nodes before the first fault: how many, and the nets open after them.
-#[derive(Drop)]
+#[derive(Clone, Copy)]
 pub struct Stretch {
     pub nodes: usize,
     pub nets: usize,

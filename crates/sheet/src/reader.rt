@@ -75,7 +75,7 @@ fn write_row(fields: &[u8], row: &mut [u8])
 }
 
 // What a walk over the entries has at a node: the label of its net, or a blank's, and after it the order and the number of nets begun.
-#[derive(Drop)]
+#[derive(Clone, Copy)]
 pub struct Step {
     pub label: u8,
     pub order: Order,

@@ -1,2 +1,4 @@
 // What is asked of one sheet: of an accepted row's, or of any.
+#![tactic(auto)]
+
 pub mod sheets;

@@ -1,4 +1,6 @@
 // Asks the library the edges and specimens of documents 01 and 02 and the worked net lists of the source documents, and prints each answer with what was tested.
+#![tactic(auto)]
+
 mod agreement_edges;
 mod blanks;
 mod drawer_edges;

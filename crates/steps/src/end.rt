@@ -14,7 +14,7 @@ use crate::rank::Stop;
 use crate::word::{put_word, word};
 
 // Orders of five nets, a word of them for each place of the youngest: it has one, two or three above it.
-#[derive(Drop)]
+#[derive(Clone, Copy)]
 pub struct Five {
     pub second: u32,
     pub third: u32,

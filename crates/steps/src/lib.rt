@@ -1,4 +1,6 @@
 // One node on a set of orders: sets as words of ranks, and openings, touches, endings and blanks on them, forward and back.
+#![tactic(auto)]
+
 pub mod end;
 pub mod four;
 pub mod open;

@@ -6,7 +6,7 @@ ghost use Rattle.steps.specs.Stops.{Located, Beside, Factorial};
 ghost use Rattle.steps.specs.Four.{Tables};
 
 // A node as the passes see it, with the tracks of the streets: its kind field, the age of its net, how many nets are open before it.
-#[derive(Drop)]
+#[derive(Clone, Copy)]
 pub struct Stop {
     pub kind: u8,
     pub age: u8,
@@ -16,7 +16,7 @@ pub struct Stop {
 }
 
 // A net in an order: how many stand above it, and the rank of the order without it.
-#[derive(Drop)]
+#[derive(Clone, Copy)]
 pub struct Place {
     pub at: usize,
     pub rest: usize,

@@ -1,4 +1,6 @@
 // The state of the street rules: an order of open nets by value, and the limits at a node.
+#![tactic(auto)]
+
 pub mod places;
 
 ghost use Rattle.std.specs.Prelude.{◌≡◌, [], ◌∷◌, ◌++◌, suc, ◌^◌, ◌≤◌, ◌<◌, length, get_or, take};
@@ -14,7 +16,7 @@ use rules::Limits;
 pub const CAPACITY: usize = 6;
 
 // An order: the labels of the open nets from top to bottom, with their count. Cells past the count are free.
-#[derive(Drop)]
+#[derive(Clone, Copy)]
 pub struct Order {
     pub nets: [u8; CAPACITY],
     pub count: usize,

@@ -1,4 +1,6 @@
 // Has the library answer S1 to S12 and every line of the outside vectors in data/, and prints how many disagree.
+#![tactic(auto)]
+
 mod ask_agreement;
 mod ask_drawer;
 mod ask_reader;
@@ -15,7 +17,7 @@ use std::num::wrapping_add_u64;
 use told::has_blank;
 
 // Whom the lines of a file ask.
-#[derive(Drop)]
+#[derive(Clone, Copy)]
 enum Asked {
     Router,
     Reader,
@@ -74,7 +76,7 @@ fn answer(asked: Asked, path: &[u8], text: &[u8]) {
 }
 
 // Of a text's lines: how many disagree, and the row of how many has a blank.
-#[derive(Drop)]
+#[derive(Clone, Copy)]
 struct Seen {
     wrong: u64,
     blanks: u64,

@@ -1,4 +1,6 @@
 // The sheet of kind fields and places, written to the start of a buffer or of a part of one.
+#![tactic(auto)]
+
 ghost use Rattle.std.specs.Prelude.{◌≡◌, ◌+◌, ◌^◌, ◌≤◌, ◌<◌, length};
 ghost use Rattle.rules.specs.Bits.{digits, bytes};
 ghost use Rattle.rules.specs.Sheet.{sheet_bits, entry_bits, size};
