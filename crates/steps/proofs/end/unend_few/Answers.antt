@@ -1,0 +1,15 @@
+-- `steps::end::unend_few` meets its contract: what leads back is kept of the word.
+use Rattle.steps.proofs.EndingSets.{few-loses, next_word, marks-below}
+use Rattle.steps.proofs.end.unend_few.Goals as goal
+
+pub returns : goal.returns
+returns c =
+    let start = c in
+    let g = start.args in
+    let h = start.requires in
+    let l = c.legal-l in
+    let n = c.word-n in
+    let z = c.few_back in
+    let p = c.keep_word in
+    few-loses g.stop l.result h.sound.0 h.sound.1 l.ensures h.tables.1 g.work.now g.g (marks-below g.stop g.work.now g.g h.sources) n.result z.result
+    (next_word g.work.now g.g 0 n.result n.ensures) z.ensures p.new.work p.ensures

@@ -1,0 +1,10 @@
+-- `steps::four::standing` meets its contract: the table's word is the preimage.
+use Rattle.steps.specs.Four.{place_of}
+use Rattle.steps.proofs.FourSets.{pulled}
+use Rattle.steps.proofs.four.standing.Goals as goal
+
+pub returns : goal.returns
+returns c =
+    let g = c.args in
+    let h = c.requires in
+    pulled (place_of g.e) g.places _ (h.0.stand g.e g.places h.1 h.2)

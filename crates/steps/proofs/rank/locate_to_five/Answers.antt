@@ -1,0 +1,81 @@
+-- `steps::rank::locate_to_five` meets its contract: the youngest of five stands at the first digit, another beside it, and fewer are four. Assumes nothing.
+use mathlib.Core.Path.{◌≡◌, refl, ap, ◌∙◌}
+use Prim.Native.Nat.{ℕ, suc, ◌-◌, ◌%◌, ◌≤◌, ◌<◌}
+use native.Mathlib.Omega.{arith}
+use Rattle.steps.specs.Ranks.{fact, at_of, less_of}
+use Rattle.steps.proofs.Ranks.{at-youngest, less-youngest, at-older, less-older}
+use Rattle.steps.proofs.FourSets.{place-lt, left_lt}
+use Rattle.steps.proofs.EndingFew.{fact-four, place-few, left-few}
+use Rattle.steps.proofs.rank.locate_to_five.Goals as goal
+
+pub spot-place-requires : goal.spot-place-requires
+spot-place-requires c =
+    let g = c in
+    let m : g.args.b ≤ 4 = omega (arith, c.if-b-lt5.true) in
+    (g.requires.0, omega (arith, g.requires.1), omega (arith, g.requires.3, fact-four g.args.b m))
+
+pub overflow_add-result : goal.overflow_add-result
+overflow_add-result c =
+    let g = c in
+    let m : g.args.b ≤ 4 = omega (arith, c.if-b-lt5.true) in
+    let e = place-few g.args.b g.args.a g.requires.1 m g.args.r g.requires.3 in
+    let l = place-lt (g.args.b - 1 - g.args.a) g.args.r (omega (arith, g.requires.3, fact-four g.args.b m)) in
+    omega (arith, c.spot-place.ensures.at, e, l, m)
+
+pub overflow_sub-result : goal.overflow_sub-result
+overflow_sub-result c =
+    let g = c in
+    let m : g.args.b ≤ 4 = omega (arith, c.if-b-lt5.true) in
+    let e = place-few g.args.b g.args.a g.requires.1 m g.args.r g.requires.3 in
+    omega (arith, c.spot-place.ensures.at, e, m)
+
+pub returns-then-b-lt5 : goal.returns-then-b-lt5
+returns-then-b-lt5 c =
+    let g = c in
+    let m : g.args.b ≤ 4 = omega (arith, c.if-b-lt5.true) in
+    let e = place-few g.args.b g.args.a g.requires.1 m g.args.r g.requires.3 in
+    record {
+      at = omega (arith, c.spot-place.ensures.at, e, m);
+      rest = c.spot-place.ensures.rest ∙ left-few g.args.b g.args.a g.requires.1 m g.args.r g.requires.3;
+    }
+
+pub returns-then-a-eq0 : goal.returns-then-a-eq0
+unfolding fact
+returns-then-a-eq0 c =
+    let g = c in
+    let e : g.args.b ≡ 5 = omega (arith, g.requires.2, c.if-b-lt5.false) in
+    record {
+      at = at-youngest g.args.a g.args.b 4 g.args.r 24 c.if-a-eq0.true e refl;
+      rest = less-youngest g.args.a g.args.b 4 g.args.r 24 c.if-a-eq0.true e refl;
+    }
+
+pub beside-requires : goal.beside-requires
+unfolding fact
+beside-requires c =
+    let g = c in
+    let e : g.args.b ≡ 5 = omega (arith, g.requires.2, c.if-b-lt5.false) in
+    let h : g.args.r < 120 = rw e at g.requires.3 in
+    let o = c.spot.ensures in record {
+      first_le_capacity = (omega arith, omega arith);
+      at_lt_capacity = (
+        omega (arith, o.at, place-lt (4 - g.args.a) (g.args.r % 24) (omega arith)),
+        omega (arith, o.rest, left_lt (4 - g.args.a) (g.args.r % 24) (omega arith)),
+      );
+    }
+
+pub returns : goal.returns
+unfolding fact
+returns c =
+    let g = c in
+    let x = g.args in
+    let eb : x.b ≡ 5 = omega (arith, g.requires.2, c.if-b-lt5.false) in
+    let ea : x.a ≡ suc (x.a - 1) = omega (arith, c.if-a-eq0.false) in
+    let en : 3 - (4 - x.a) ≡ x.a - 1 = omega (arith, g.requires.1) in
+    let o = c.spot in
+    let at : o.result.at ≡ at_of (x.a - 1) 4 (x.r % 24) = o.ensures.at ∙ ap (λ (n : ℕ). at_of n 4 (x.r % 24)) en in
+    let rest : o.result.rest ≡ less_of (x.a - 1) 4 (x.r % 24) = o.ensures.rest ∙ ap (λ (n : ℕ). less_of n 4 (x.r % 24)) en in
+    record {
+      at = c.beside.ensures.at ∙ at-older x.a x.b (x.a - 1) 4 x.r 24 o.result.at ea eb refl at;
+      rest = c.beside.ensures.rest
+          ∙ less-older x.a x.b (x.a - 1) 4 x.r 24 o.result.at ea eb refl at o.result.rest rest;
+    }

@@ -1,0 +1,12 @@
+-- `steps::rank::spot` meets its contract: the table's word has the place and the rank that is left. Assumes nothing.
+use native.Mathlib.Omega.{arith}
+use Rattle.steps.proofs.FourSets.{left_lt}
+use Rattle.steps.proofs.rank.spot.Goals as goal
+
+pub returns : goal.returns
+returns c =
+    let g = c.args in
+    let h = c.requires in
+    let v = h.0.spot g.e g.r h.1 h.2 in
+    let l = left_lt g.e g.r h.2 in
+    record { at = omega (arith, v, l); rest = omega (arith, v, l) }

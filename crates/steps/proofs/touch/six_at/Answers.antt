@@ -1,0 +1,16 @@
+-- `steps::touch::six_at` meets its contract: the net is the youngest, or third of the five others.
+use Prim.Native.Nat.{◌-◌}
+use native.Mathlib.Omega.{arith}
+use Rattle.steps.proofs.Masks.{youngest-six, older-six}
+use Rattle.steps.proofs.touch.six_at.Goals as goal
+
+pub returns-then-a-eq0 : goal.returns-then-a-eq0
+returns-then-a-eq0 c =
+    let g = c in
+    youngest-six g.args.a g.args.e g.requires.2 c.if-a-eq0.true
+
+pub returns : goal.returns
+returns c =
+    let g = c in
+    let h = c.if-a-eq0.false in
+    older-six g.args.a g.args.e g.requires.2 (g.args.a - 1) c.five_at.result (omega arith) c.five_at.ensures
