@@ -12,7 +12,7 @@ use Rattle.rules.specs.Sheet.{Entry, entry, entry_bits, sheet_bits, size, paddin
 use Rattle.rules.specs.Answers.{written}
 use Rattle.rules.proofs.Fields.{length_digits, length-pack, digits-join, pack-append, drop-pack, below_at, below-digits, below-append, below-drop, below-bytes, bits-bytes, bytes_bits, length-bytes}
 use Rattle.bits.specs.Access.{Put}
-use Rattle.writer.specs.Entered.{zipped, head_bits, node_bits, four_bits, entered, Fields, Entering, Writing, over, Laid, Started}
+use Rattle.writer.specs.Entered.{zipped, head_bits, node_bits, four_bits, entered, Fields, Writing, over, Laid, Started}
 
 -- ---- laying bits
 

@@ -1,0 +1,11 @@
+-- `script::labels::lasts` meets its contract. The loop's invariant: the table holds the last nodes among those passed. Assumes nothing.
+use Prim.Native.Nat.{◌-◌, ◌≤◌}
+use lib.ListN.{length}
+use Rattle.script.specs.Tabled.{Lasts}
+use Rattle.script.proofs.labels.lasts.Given as goal
+
+abbrev pub invariant-loop-i : goal.invariant-loop-i
+invariant-loop-i l = (l.i ≤ length l.row) × Lasts l.row l.i l.table
+
+abbrev pub decreases-loop-i : goal.decreases-loop-i
+decreases-loop-i l = length l.row - l.i
