@@ -133,51 +133,51 @@ module _ (w : Wires) (k : ℕ) (z : ℤ) (x : ℕ) (s : Sound w) (h : k < w.coun
         count = refl;
       }
 
--- ---- a loop that inserts: a wire is carried downward, its level as the code's bits
+-- ---- a loop that inserts: a wire is carried downward
 
-pub record Carried (x : Wire) (k : ℕ) (ws : List Wire) (count : ℕ) (nets : List ℕ) (levels : List ℤ) (starts : List ℕ) (n l s i : ℕ) : Type 0 where
+pub record Carried (x : Wire) (k : ℕ) (ws : List Wire) (count : ℕ) (nets : List ℕ) (levels : List ℤ) (starts : List ℕ) (n : ℕ) (l : ℤ) (s i : ℕ) : Type 0 where
   pub nets-all : length nets ≡ capacity
   pub levels-all : length levels ≡ capacity
   pub starts-all : length starts ≡ capacity
   pub within : i ≤ count
-  pub same : put i (wire n (to_z w8 l) s) (take count (joined nets levels starts)) ≡ put k x (take count ws)
+  pub same : put i (wire n l s) (take count (joined nets levels starts)) ≡ put k x (take count ws)
 
-module _ (x : Wire) (k : ℕ) (ws : List Wire) (count : ℕ) (nets : List ℕ) (levels : List ℤ) (starts : List ℕ) (n l s i : ℕ)
+module _ (x : Wire) (k : ℕ) (ws : List Wire) (count : ℕ) (nets : List ℕ) (levels : List ℤ) (starts : List ℕ) (n : ℕ) (l : ℤ) (s i : ℕ)
     (c : Carried x k ws count nets levels starts n l s i) where
-  pub carried_step : i < count → count ≤ capacity → SFits w8 (get_or levels i (pos 0))
-      → Carried x k ws count (set nets i n) (set levels i (to_z w8 l)) (set starts i s) (get_or nets i 0) (of_z w8 (get_or levels i (pos 0))) (get_or starts i 0) (i + 1)
-  carried_step h few f =
+  pub carried_step : i < count → count ≤ capacity
+      → Carried x k ws count (set nets i n) (set levels i l) (set starts i s) (get_or nets i 0) (get_or levels i (pos 0)) (get_or starts i 0) (i + 1)
+  carried_step h few =
       let j : List Wire = joined nets levels starts in
       let there : get_or j i missing ≡ wire (get_or nets i 0) (get_or levels i (pos 0)) (get_or starts i 0) =
       joined_at nets levels starts i missing (omega (arith, c.nets-all)) (omega (arith, c.levels-all)) (omega (arith, c.starts-all)) in
       let long : count ≤ length j = omega (arith, joined_length capacity nets levels starts c.nets-all c.levels-all c.starts-all) in
       record {
         nets-all = length-set nets i n ∙ c.nets-all;
-        levels-all = length-set levels i (to_z w8 l) ∙ c.levels-all;
+        levels-all = length-set levels i l ∙ c.levels-all;
         starts-all = length-set starts i s ∙ c.starts-all;
         within = omega arith;
         same =
-            rw (add-one i, to_z-of_z w8 (get_or levels i (pos 0)) f, joined-set nets levels starts i n (to_z w8 l) s, ← there)
-            (put-carried count i (wire n (to_z w8 l) s) missing j h long ∙ c.same);
+            rw (add-one i, joined-set nets levels starts i n l s, ← there)
+            (put-carried count i (wire n l s) missing j h long ∙ c.same);
       }
 
   pub carried-end : count ≤ i → count < capacity → Sane (take count ws) → Fine x
       → (w : Wires) → listed w ≡ take count ws → w.count ≡ count
-      → Inserted w k x (record { nets = set nets count n; levels = set levels count (to_z w8 l); starts = set starts count s; count = count + 1 })
+      → Inserted w k x (record { nets = set nets count n; levels = set levels count l; starts = set starts count s; count = count + 1 })
   carried-end e few sane fine w list same_count =
       let j : List Wire = joined nets levels starts in
       let reached : count ≡ i = omega (arith, c.within) in
       let long : count < length j = omega (arith, joined_length capacity nets levels starts c.nets-all c.levels-all c.starts-all) in
-      let result : take (count + 1) (joined (set nets count n) (set levels count (to_z w8 l)) (set starts count s)) ≡ put k x (take count ws) =
-      ap₂ (λ (m : ℕ) (r : List Wire). take m r) (add-one count) (joined-set nets levels starts count n (to_z w8 l) s)
-      ∙ put-stored count (wire n (to_z w8 l) s) j long
-      ∙ ap (λ (m : ℕ). put m (wire n (to_z w8 l) s) (take count j)) reached
+      let result : take (count + 1) (joined (set nets count n) (set levels count l) (set starts count s)) ≡ put k x (take count ws) =
+      ap₂ (λ (m : ℕ) (r : List Wire). take m r) (add-one count) (joined-set nets levels starts count n l s)
+      ∙ put-stored count (wire n l s) j long
+      ∙ ap (λ (m : ℕ). put m (wire n l s) (take count j)) reached
       ∙ c.same in
       record {
         sound =
             record {
               nets = length-set nets count n ∙ c.nets-all;
-              levels = length-set levels count (to_z w8 l) ∙ c.levels-all;
+              levels = length-set levels count l ∙ c.levels-all;
               starts = length-set starts count s ∙ c.starts-all;
               few = omega arith;
               sane = rw result (sane-put sane k fine);

@@ -1,15 +1,14 @@
 -- Where every wire has the height that it has to reach, a gap changes nothing and draws nothing.
-use mathlib.Core.Path.{◌≡◌, refl, sym, ap, ◌∙◌}
+use mathlib.Core.Path.{◌≡◌, refl, ap, ◌∙◌}
 use mathlib.Core.Bool.{Bool, true, false}
-use mathlib.Core.List.{List, [], ◌∷◌, ◌++◌}
-use Prim.Native.Nat.{ℕ, zero, suc, ◌+◌, ◌-◌, ◌≤◌, ◌<◌}
+use mathlib.Core.List.{List, [], ◌∷◌}
+use Prim.Native.Nat.{ℕ, suc, ◌+◌, ◌-◌, ◌≤◌, ◌<◌}
 use native.Mathlib.Nat.{add-zero}
 use native.Mathlib.Omega.{arith}
 use lib.ListN.{length, get_or}
-use lib.Dec.{ltb}
-use borrow.Author.Tests.{le-ltb, ltb-false}
+use borrow.Author.Tests.{le-ltb}
 use Rattle.rules.specs.Basic.{pick}
-use Rattle.rules.specs.Film.{Wire, Sweep, Rec, bent, drawn, climb, sink, gap}
+use Rattle.rules.specs.Film.{Wire, Sweep, bent, drawn, climb, sink, gap}
 use Rattle.film.specs.declared.moves.Pen.{Pen}
 use Rattle.film.specs.declared.moves.Node.{Node}
 use Rattle.film.specs.declared.wires.Wires.{Wires}
@@ -64,10 +63,6 @@ steady-swept n p film k s h r =
       across = omega arith;
       room = omega arith;
     })
-
--- two numbers of which neither is below the other are equal
-pub level-met : (a b x y : ℕ) → x ≡ a → y ≡ b → ltb x y ≡ false → ltb y x ≡ false → a ≡ b
-level-met a b x y e f u d = omega (arith, ltb-false x y u, ltb-false y x d)
 
 pub steady-reaches : (n : Node) (w : Wires) (b : Bool) → Steady n w b → b ≡ true → Reaches n w w.count
 steady-reaches n w true r e = r

@@ -135,21 +135,6 @@ module _ (t : ℕ → ℕ) (p₀ : Pen) (film₀ : List ℕ) where
     pub across : p.column ≤ p₀.column + q
     pub room : p.drawn ≤ p₀.drawn + 2 * q
 
-  pub climb-start : Sound p₀.wires → Climbing p₀ film₀ 0
-  climb-start s =
-      record {
-        sound = s;
-        count = refl;
-        within = omega arith;
-        list = refl;
-        column = refl;
-        records = refl;
-        bytes = refl;
-        same = refl;
-        across = omega arith;
-        room = omega arith;
-      }
-
   module _ (p r : Pen) (film after : List ℕ) (q : ℕ) (c : Climbing p film q) (h : q < p.wires.count)
       (s : Stepped (ltb (wire_at p.wires q).height (t q)) (t q) q p film r after) where
     abbrev up : Bool
@@ -235,12 +220,6 @@ module _ (t : ℕ → ℕ) (p₀ : Pen) (film₀ : List ℕ) where
     pub climb-rested : ltb o n ≡ false → Climbing p film (q + 1)
     climb-rested e =
         climb-step p p film film q c within-p (step-rests p q film (ltb (wire_at p.wires q).height (t q)) (t q) (sym tested ∙ e) c.sound within-p)
-
-  pub climb-kept : (p : Pen) (film : List ℕ) (q : ℕ) → Climbing p film q → length film ≡ length film₀
-  climb-kept p film q c =
-      sym (laid-length film p.drawn (climb t q p.column (drop q (listed p.wires))).film)
-      ∙ ap length c.bytes
-      ∙ laid-length film₀ p₀.drawn goal.film
 
   pub climb-end : (p : Pen) (film : List ℕ) (q : ℕ) → Climbing p film q → p₀.wires.count ≤ q → Swept goal p₀.wires.count p₀ film₀ p film
   unfolding climb laid
@@ -405,24 +384,6 @@ module _ (t : ℕ → ℕ) (p₀ : Pen) (film₀ : List ℕ) where
     pub sink-rested : ltb n o ≡ false → Sinking p film q
     sink-rested e =
         sink-step p p film film m q i s₀ c (step-rests p q film (ltb (t q) (wire_at p.wires q).height) (t q) (sym weighed ∙ e) c.sound under-p)
-
-  pub sink-kept : (p : Pen) (film : List ℕ) (q : ℕ) → Sinking p film q → length film ≡ length film₀
-  sink-kept p film q c = ap length c.bytes ∙ laid-length film₀ p₀.drawn (lower q).film
-
-  pub sink-end : (p : Pen) (film : List ℕ) (q : ℕ) → q ≤ 0 → Sinking p film q → Swept (sink t 0 p₀.column whole) p₀.wires.count p₀ film₀ p film
-  sink-end p film q h c =
-      let z : q ≡ 0 = omega arith in
-      let d = rw z at c in
-      record {
-        sound = d.sound;
-        count = d.count;
-        list = d.list;
-        column = d.column;
-        records = d.records;
-        bytes = d.bytes;
-        across = omega (arith, d.across);
-        room = omega (arith, d.room);
-      }
 
 -- ---- a gap
 

@@ -95,9 +95,6 @@ below (suc (suc (suc zero))) h k = (record { sfits = omega arith }, record { lev
 below (suc (suc (suc (suc n)))) h k = absurd (omega arith)
 
 module _ (u q : ℕ) (l : u < q) (k : q ≤ u + 3) where
-  pub negated : SFits w8 (pos 0 -ℤ to_z w8 (q - u))
-  negated = (below (q - u) (omega arith) (omega arith)).0
-
   pub reached-below : Reached (height_at u q) (to_z w8 (of_z w8 (pos 0 -ℤ to_z w8 (q - u))))
   unfolding height_at pick
   reached-below = rw (lt-leb q u l) (below (q - u) (omega arith) (omega arith)).1

@@ -10,7 +10,7 @@ use Rattle.rules.specs.Row.{Kind, B, M, E, N}
 use Rattle.rules.specs.Street.{last, counted}
 use Rattle.rules.specs.Sheet.{kind_in, Entry, entry, begun}
 use Rattle.rules.specs.Judgement.{left}
-use Rattle.rules.specs.Film.{upper, upper_at, Rec, Wire, Sweep, gap, marks, draw}
+use Rattle.rules.specs.Film.{upper_at, Rec, Wire, Sweep, gap, marks, draw}
 use Rattle.rules.proofs.Fits.{FitsAt}
 use Rattle.rules.proofs.Levels.{both-streets}
 use Rattle.rules.proofs.Legal.{Legal, then}
@@ -27,7 +27,7 @@ use Rattle.film.specs.Wires.{listed, Sound, Emptied}
 use Rattle.film.specs.Moves.{aim, Swept}
 use Rattle.film.specs.Nodes.{kind_of, own, shown, going, Joinable, Joined, Open, Stubbed, Ended, Skipped}
 use Rattle.film.specs.Walks.{pitch, NodeOf, Due, crossing, strokes, Visited, records_in, Lain}
-use Rattle.film.proofs.Sweeps.{laid-append, laid-length}
+use Rattle.film.proofs.Sweeps.{laid-append}
 use Rattle.film.proofs.Joints.{kind-goes-on, kind-ends, kind-blank, goes-on-open, ends_open, joined-goes-on, joined-ends, joined-blank}
 
 -- ---- one node
@@ -248,10 +248,6 @@ module _ {ku kl : ℕ} (fs film₀ : List ℕ) (d : Faultless ku kl fs) where
             go M l = omega (arith, m.few)
             go E l = omega (arith, m.few)
             go N l = omega (arith, m.few)
-
-  pub walk_kept : (i : ℕ) (w : Walk) (film : List ℕ) → Walking i w film → length film ≡ length film₀
-  walk_kept i w film m =
-      sym (laid-length film w.pen.drawn (ahead i w)) ∙ ap length m.bytes ∙ laid-length film₀ 0 (records_in ku fs)
 
   pub walk_end : (i : ℕ) (w : Walk) (film : List ℕ) → Walking i w film → length fs ≤ i → Lain ku fs film₀ w.pen.drawn film
   unfolding draw laid

@@ -161,12 +161,6 @@ fours-step {s} {k = k} byte h m =
       bytes = four-more s byte k (omega (arith, m.packed.within)) m.packed h m.bytes;
     }
 
--- all fours are unpacked
-pub fours-end : {s d fields : List ℕ} {n k : ℕ} → n / 4 ≤ k → Fours s d n fields k → (4 * (n / 4) ≤ n) × (fields ≡ filled (fields_of s n) d (4 * (n / 4)))
-fours-end {s} {d} {n = n} {k = k} h m =
-    let e : 4 * k ≡ 4 * (n / 4) = omega (arith, m.within) in
-    (omega arith, m.bytes ∙ ap (filled (fields_of s n) d) e)
-
 -- ---- and the nodes behind them one by one
 
 -- bytes that are filled so far are as many as they were

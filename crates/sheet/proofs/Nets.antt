@@ -74,9 +74,6 @@ module _ (fs : List ℕ) where
     pub within : i ≤ length fs
     pub rest : betweens (drop i (entries_in fs)) ≡ betweens (entries_in fs)
 
-  pub paired-start : Paired 0
-  paired-start = record { within = omega arith; rest = refl }
-
   module _ (i : ℕ) (h : i < length fs) (m : Paired i) where
     here : between (kind_in (get_or fs i 0 / 16)) + betweens (drop (suc i) (entries_in fs)) ≡ betweens (entries_in fs)
     unfolding betweens entry_in

@@ -45,9 +45,6 @@ unfolding left_open kind_at
 open-cons b (entry f a) es = refl
 
 module _ (ku kl : ℕ) (fs : List ℕ) where
-  pub scan-start : Scanned ku kl fs 0 0
-  scan-start = record { within = omega arith; few = omega arith; faults = refl; opens = refl }
-
   module _ (i b : ℕ) (h : i < length fs) (m : Scanned ku kl fs i b) where
     -- node i's fields
     abbrev x : ℕ
@@ -77,9 +74,6 @@ module _ (ku kl : ℕ) (fs : List ℕ) where
     pub scan-stops : (FitsAt k ku kl (suc (x % 16)) (counted k b) → ⊥) → Stretched ku kl fs (record { nodes = i; nets = b })
     unfolding entry_in
     scan-stops n = record { so_far = m; stops = λ l e. n (clear-fits ku kl (suc i) b (x / 16) (x % 16) e) }
-
-  pub scan-end : (i b : ℕ) → length fs ≤ i → Scanned ku kl fs i b → Stretched ku kl fs (record { nodes = i; nets = b })
-  scan-end i b l m = record { so_far = m; stops = λ h. absurd (omega arith) }
 
 -- what the table of legal places tells of a node
 module _ {ku kl : ℕ} {l : List ℕ} (p : Places ku kl l) {x b : ℕ} (low : x < 64) (few : b < 16) {t : Bool} (told : t ≡ marked (get_or l (16 * (x / 16) + b) 0) (x % 16)) where
@@ -122,10 +116,6 @@ ends_open {ku} {kl} {f} {p} {b} h e =
 -- ---- what is told from the nodes before the first fault
 
 module _ {ku kl : ℕ} {fs : List ℕ} {r : Stretch} (m : Stretched ku kl fs r) where
-  -- a fault is asked of the next node, whose number counts from 1
-  pub stretch-asked : r.nodes < length fs → fault_at ku kl (r.nodes + 1) r.nets (entry_in (get_or fs r.nodes 0)) ≡ none → ⊥
-  stretch-asked h = rw (add-one r.nodes) (m.stops h)
-
   pub stretch-fault : r.nodes < length fs → {e : Fault} → fault_at ku kl (r.nodes + 1) r.nets (entry_in (get_or fs r.nodes 0)) ≡ some e
       → Passed.Unfit e ≡ passed (scan ku kl 1 0 (entries_in fs)) (left_open 0 (entries_in fs))
   stretch-fault h {e} q =

@@ -21,6 +21,7 @@ pub data More {A : Type 0} (w : A) : List A → List A → Type 0 where
 
 module _ {A : Type 0} {P : A → Type 0} where
   pub all-at : {v : A} {l : List A} → All P l → Memᴰ v l → P v
+  all-at nil m = elim m [ ]
   all-at (cons p a) (Memᴰ.head e) = subst P (sym e) p
   all-at (cons p a) (Memᴰ.tail m) = all-at a m
 

@@ -15,7 +15,6 @@ use Rattle.rules.specs.Basic.{pick, put, keep}
 use Rattle.rules.specs.Row.{before, has, Kind, B, M, E, N}
 use Rattle.rules.specs.Street.{last, counted, next}
 use Rattle.rules.specs.Sheet.{kind_in, Entry, entry, begun}
-use Rattle.rules.specs.Judgement.{left}
 use Rattle.rules.specs.Film.{Rec, across, Wire, axis, upper_at, height_at, target, ran, wall, bent, climb, sink, gap, opened, closed, marks, draw}
 use Rattle.rules.proofs.Fits.{FitsAt, Wired, counted-le}
 use Rattle.rules.proofs.Open.{one-other, times}

@@ -2,7 +2,7 @@
 use mathlib.Core.Path.{◌≡◌, refl, sym, ap, ◌∙◌, subst}
 use mathlib.Core.Bool.{true}
 use mathlib.Core.List.Memᴰ
-use mathlib.Core.List.{List, ◌∷◌, ◌++◌, Memᴰ}
+use mathlib.Core.List.{List, [], ◌∷◌, ◌++◌, Memᴰ}
 use mathlib.Core.Logic.{◌≢◌, ◌⊎◌, inl, inr}
 use mathlib.Core.Option.{Option, none, some}
 use Prim.Native.Nat.{ℕ, suc, ◌+◌, ◌-◌, ◌*◌, ◌≤◌, ◌<◌, min, max}
@@ -81,6 +81,7 @@ module _ {pitch ku kl : ℕ} where
 -- two wires of one net are one
 one-wire : {v w : Wire} (ws : List Wire) → ((k : ℕ) → times k (open_nets ws) ≤ 1) → Memᴰ v ws → Memᴰ w ws → v.net ≡ w.net → v ≡ w
 unfolding times
+one-wire [] o d f q = elim d [ ]
 one-wire (u ∷ ws) o (Memᴰ.head e) (Memᴰ.head f) q = e ∙ sym f
 one-wire {v} {w} (u ∷ ws) o (Memᴰ.head e) (Memᴰ.tail d) q = absurd (other-net {w = u} here (o w.net) d (ap (λ z. z.net) (sym e) ∙ q))
 one-wire {v} {w} (u ∷ ws) o (Memᴰ.tail d) (Memᴰ.head f) q = absurd (other-net {w = u} here (o v.net) d (ap (λ z. z.net) (sym f) ∙ sym q))

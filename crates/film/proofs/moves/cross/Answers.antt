@@ -1,0 +1,20 @@
+-- `film::moves::cross` meets its contract: a gap where nothing moves is passed over (`steady-swept`), and another is the climb and then the sink
+-- (`cross-swept`). Assumes nothing.
+use Rattle.film.specs.Moves.{aim}
+use Rattle.film.proofs.Sweeps.{cross-swept}
+use Rattle.film.proofs.Steadiness.{steady-swept, steady-reaches}
+use Rattle.film.proofs.moves.cross.Goals as goal
+
+pub returns-then-is_steady : goal.returns-then-is_steady
+returns-then-is_steady c =
+    let a = c.args in
+    let s = c.is_steady in
+    steady-swept a.node a.pen a.film.now _ c.requires.0.sound c.requires.2
+    (steady-reaches a.node a.pen.wires s.result s.ensures c.if-is_steady.true)
+
+pub returns : goal.returns
+returns c =
+    let a = c.args in
+    let u = c.climb-up in
+    let r = c.sink in
+    cross-swept (aim a.node) a.pen u.result r.result a.film.now u.new.film r.new.film c.requires.2 u.ensures r.ensures
