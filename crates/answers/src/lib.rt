@@ -14,6 +14,7 @@ pub struct Said {
 }
 
 // What the router said.
+#[tactic(auto, unfolding(rules::specs::Answers::route_said))]
 pub fn route_said(r: Routing) -> Said
     ensures { says result.number result.place ≡ route_said r }
 {
@@ -29,6 +30,7 @@ pub fn route_said(r: Routing) -> Said
 }
 
 // What the reader said.
+#[tactic(auto, unfolding(rules::specs::Answers::read_said))]
 pub fn read_said(r: Reading) -> Said
     ensures { says result.number result.place ≡ read_said r }
 {
@@ -40,6 +42,7 @@ pub fn read_said(r: Reading) -> Said
 }
 
 // What the drawer said.
+#[tactic(auto, unfolding(rules::specs::Answers::draw_said))]
 pub fn draw_said(d: Drawing) -> Said
     ensures { says result.number result.place ≡ draw_said d }
 {
@@ -51,6 +54,7 @@ pub fn draw_said(d: Drawing) -> Said
 }
 
 // Why a sheet was refused.
+#[tactic(auto, unfolding(rules::specs::Answers::fault_said))]
 pub fn fault_said(e: Fault) -> Said
     ensures { says result.number result.place ≡ fault_said e }
 {
@@ -66,6 +70,7 @@ pub fn fault_said(e: Fault) -> Said
     }
 }
 
+#[tactic(auto, unfolding(rules::specs::Answers::limit_number))]
 fn limit_number(l: Limits) -> u32
     ensures { result ≡ limit_number l }
 {

@@ -15,7 +15,7 @@ use Rattle.rules.specs.declared.Drawing.TheVariants.{Film, FilmShort}
 use Rattle.rules.specs.Basic.{pick, tabulate, every, least, put, cut, keep, and_then, or_else, is_none, settle}
 use Rattle.rules.specs.Row.{Kind, B, M, E, N, before, has, blank, joined, home, later, kind_of, node_at, nodes, lone}
 use Rattle.rules.specs.Street.{limits, met, last, limits_at, fits_at, counted, stands, next, kind, step, first_from, also, way, empty, first, failing}
-use Rattle.rules.specs.Bits.{digits, val, pack, unpack, bytes, Below, nil, cons}
+use Rattle.rules.specs.Bits.{digits, val, pack, unpack, Below, nil, cons}
 use Rattle.rules.specs.Sheet.{takes, code, kind_in, Entry, entry, entries, entry_bits, size, padding, sheet_bits, sheet, upper_of, lower_of, count_of, entry_at, entries_of, padding_of, begun, begun_by, nets_of, net_at, nets, pins_of, label, row_of}
 use Rattle.rules.specs.Film.{Wire, axis, upper, upper_at, height_at, target, Rec, ran, wall, bent, drawn, climb, sink, gap, opened, closed, marks, draw, records, rec_bits, film_bytes}
 use Rattle.rules.specs.Judgement.{wrong_count, head, room, broken, fault_at, left, scan, left_open, tail, middle, judge, crowded, readable}

@@ -2,7 +2,7 @@
 -- taken, and their pins come back.
 use mathlib.Core.Path.{◌≡◌, refl, ap}
 use mathlib.Core.Bool.{Bool, true, false, ◌&&◌}
-use mathlib.Core.List.{List, []}
+use mathlib.Core.List.{List}
 use mathlib.Core.Logic.{◌↔◌}
 use mathlib.Core.Option.{Option, none, some, map}
 use Prim.Native.Nat.{ℕ, ◌≤◌}
