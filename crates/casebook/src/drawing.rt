@@ -9,21 +9,29 @@ use fields::number;
 use film::drawer::draw;
 use lent::fill;
 use lent::films::is_drawn;
+use std::io;
 
 // Bytes of a film: more than any case needs.
 const FILM: usize = 4096;
 
 // A sheet and the film that it is to give. Fields k to k + 2 of the line are `size number place`.
-pub fn drawer_film(tally: Tally, line: &[u8], k: usize, sheet: &[u8], wanted: &[u8]) -> Tally
+pub fn drawer_film(
+    rt: &impl Print,
+    tally: Tally,
+    line: &[u8],
+    k: usize,
+    sheet: &[u8],
+    wanted: &[u8],
+) -> io::Result<Tally>
     requires { k < 16 }
 {
     let mut film = [0u8; FILM];
     fill(&mut film);
     let said = drawn(sheet, &mut film, number(line, k));
-    print_case(b"drawer", line, said, &film, wanted.len());
+    print_case(rt, b"drawer", line, said, &film, wanted.len())?;
     let is_film = is_drawn(&film, wanted);
-    print_test(b"film", is_film);
-    judged(tally, line, k + 1, said, is_film)
+    print_test(rt, b"film", is_film)?;
+    judged(rt, tally, line, k + 1, said, is_film)
 }
 
 // Draws a sheet on the first bytes of a film, where it has so many.

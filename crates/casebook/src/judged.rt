@@ -5,7 +5,7 @@ use crate::Tally;
 use crate::print::{end_line, print_test};
 use answers::Said;
 use fields::is_said;
-use libc::STDOUT_FILENO;
+use std::io;
 use std::num::wrapping_add_u64;
 
 pub fn noted(tally: Tally, is_right: bool) -> Tally {
@@ -21,13 +21,20 @@ pub fn noted(tally: Tally, is_right: bool) -> Tally {
 }
 
 // A case is right where its buffers are and its answer is that of fields k and k + 1.
-pub fn judged(tally: Tally, line: &[u8], k: usize, said: Said, are_buffers: bool) -> Tally
+pub fn judged(
+    rt: &impl Print,
+    tally: Tally,
+    line: &[u8],
+    k: usize,
+    said: Said,
+    are_buffers: bool,
+) -> io::Result<Tally>
     requires { k < 32 }
 {
     let is_answer = is_said(line, k, said.number, said.place);
-    print_test(b"answer", is_answer);
-    end_line();
-    noted(tally, both(is_answer, are_buffers))
+    print_test(rt, b"answer", is_answer)?;
+    end_line(rt)?;
+    Ok(noted(tally, both(is_answer, are_buffers)))
 }
 
 pub fn both(first: bool, second: bool) -> bool {
@@ -43,9 +50,9 @@ pub fn no_answer() -> Said {
 }
 
 // A line with a field that cannot be read is a wrong case.
-pub fn unread(tally: Tally, line: &[u8]) -> Tally {
-    io::write_all(STDOUT_FILENO, b"no case: ");
-    io::write_all(STDOUT_FILENO, line);
-    end_line();
-    noted(tally, false)
+pub fn unread(rt: &impl Print, tally: Tally, line: &[u8]) -> io::Result<Tally> {
+    rt.write_all(b"no case: ")?;
+    rt.write_all(line)?;
+    end_line(rt)?;
+    Ok(noted(tally, false))
 }

@@ -14,9 +14,9 @@ mod whole;
 
 use agreement::agreement_case;
 use fields::find;
-use libc::STDOUT_FILENO;
 use routing::router_case;
 use sheets::{Lent, sheet_case};
+use std::io;
 use whole::whole_case;
 
 // How many cases were asked, and how many of them had an answer or a byte that differs from what is wanted.
@@ -43,34 +43,34 @@ pub fn start() -> Tally {
 }
 
 // Asks the case of each line of a text; an empty line has none.
-pub fn ask(tally: Tally, asked: Asked, text: &[u8]) -> Tally {
+pub fn ask(rt: &impl Print, tally: Tally, asked: Asked, text: &[u8]) -> io::Result<Tally> {
     let mut sum = tally;
     let mut at = 0;
     while at < text.len() {
         let end = find(text, at, b'\n');
-        sum = ask_line(sum, asked, &text[at..end]);
+        sum = ask_line(rt, sum, asked, &text[at..end])?;
         at = end + 1;
     }
-    sum
+    Ok(sum)
 }
 
-fn ask_line(tally: Tally, asked: Asked, line: &[u8]) -> Tally {
+fn ask_line(rt: &impl Print, tally: Tally, asked: Asked, line: &[u8]) -> io::Result<Tally> {
     if line.len() == 0 {
-        return tally;
+        return Ok(tally);
     }
     match asked {
-        Asked::Router => router_case(tally, line),
-        Asked::Reader => sheet_case(tally, Lent::Row, line, 1, 2),
-        Asked::Drawer => sheet_case(tally, Lent::Film, line, 1, 2),
-        Asked::Agreement(wanted) => agreement_case(tally, line, 2, wanted),
-        Asked::Whole => whole_case(tally, line),
+        Asked::Router => router_case(rt, tally, line),
+        Asked::Reader => sheet_case(rt, tally, Lent::Row, line, 1, 2),
+        Asked::Drawer => sheet_case(rt, tally, Lent::Film, line, 1, 2),
+        Asked::Agreement(wanted) => agreement_case(rt, tally, line, 2, wanted),
+        Asked::Whole => whole_case(rt, tally, line),
     }
 }
 
 // Prints how many cases were asked, and how many are wrong.
-pub fn print_tally(tally: Tally) {
-    io::print_decimal(STDOUT_FILENO, tally.cases);
-    io::write_all(STDOUT_FILENO, b" cases, ");
-    io::print_decimal(STDOUT_FILENO, tally.wrong);
-    io::write_all(STDOUT_FILENO, b" wrong\n");
+pub fn print_tally(rt: &impl Print, tally: Tally) -> io::Result<()> {
+    rt.print(tally.cases)?;
+    rt.write_all(b" cases, ")?;
+    rt.print(tally.wrong)?;
+    rt.write_all(b" wrong\n")
 }

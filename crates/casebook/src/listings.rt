@@ -4,27 +4,33 @@ use crate::judged::{both, noted};
 use crate::print::{end_line, print_name, print_test};
 use fields::number;
 use lent::{fill, has, is_kept, is_written};
-use libc::STDOUT_FILENO;
 use listing::list_row;
+use std::io;
 use std::num::wrapping_add_usize;
 
 // A text that is printed whole. The name is the first word of `name`.
-pub fn listing_case(tally: Tally, name: &[u8], input: &[u8], wanted: &[u8]) -> Tally {
+pub fn listing_case(
+    rt: &impl Print,
+    tally: Tally,
+    name: &[u8],
+    input: &[u8],
+    wanted: &[u8],
+) -> io::Result<Tally> {
     let mut text = [0u8; 8256];
     fill(&mut text);
     let k = list_row(input, &mut text);
-    print_name(b"listrow", name);
-    print_length(k);
+    print_name(rt, b"listrow", name)?;
+    print_length(rt, k)?;
     let is_right = is_text(&text, k, wanted);
-    print_test(b"text", is_right);
-    end_line();
-    io::write_all(STDOUT_FILENO, &text[..k]);
-    noted(tally, is_right)
+    print_test(rt, b"text", is_right)?;
+    end_line(rt)?;
+    rt.write_all(&text[..k])?;
+    Ok(noted(tally, is_right))
 }
 
-fn print_length(k: usize) {
-    io::print_decimal(STDOUT_FILENO, k as u64);
-    io::write_all(STDOUT_FILENO, b" bytes");
+fn print_length(rt: &impl Print, k: usize) -> io::Result<()> {
+    rt.print(k)?;
+    rt.write_all(b" bytes")
 }
 
 // Whether k bytes are the wanted text, and every byte behind them is as it was.
@@ -37,19 +43,20 @@ fn is_text(text: &[u8; 8256], k: usize, wanted: &[u8]) -> bool {
 
 // A long text, of which the start and the end are printed and tested. The line is `name bytes lines`, how many of each it has.
 pub fn long_listing_case(
+    rt: &impl Print,
     tally: Tally,
     line: &[u8],
     input: &[u8],
     first: &[u8],
     last: &[u8],
-) -> Tally {
+) -> io::Result<Tally> {
     let mut text = [0u8; 8256];
     fill(&mut text);
     let k = list_row(input, &mut text);
     let is_rest = is_rest_kept(&text, k);
-    print_name(b"listrow", line);
-    print_length(k);
-    judged_long(tally, line, &text[..k], is_rest, first, last)
+    print_name(rt, b"listrow", line)?;
+    print_length(rt, k)?;
+    judged_long(rt, tally, line, &text[..k], is_rest, first, last)
 }
 
 fn is_rest_kept(text: &[u8; 8256], k: usize) -> bool {
@@ -57,25 +64,26 @@ fn is_rest_kept(text: &[u8; 8256], k: usize) -> bool {
 }
 
 fn judged_long(
+    rt: &impl Print,
     tally: Tally,
     line: &[u8],
     text: &[u8],
     is_rest: bool,
     first: &[u8],
     last: &[u8],
-) -> Tally {
+) -> io::Result<Tally> {
     let lines = count_lines(text);
-    io::write_all(STDOUT_FILENO, b", ");
-    io::print_decimal(STDOUT_FILENO, lines as u64);
-    io::write_all(STDOUT_FILENO, b" lines");
+    rt.write_all(b", ")?;
+    rt.print(lines)?;
+    rt.write_all(b" lines")?;
     let is_long = both(text.len() == number(line, 1), lines == number(line, 2));
     let is_right = both(both(is_rest, is_long), has_ends(text, first, last));
-    print_test(b"text", is_right);
-    end_line();
-    print_first(text, first.len());
-    io::write_all(STDOUT_FILENO, b"..\n");
-    print_last(text, last.len());
-    noted(tally, is_right)
+    print_test(rt, b"text", is_right)?;
+    end_line(rt)?;
+    print_first(rt, text, first.len())?;
+    rt.write_all(b"..\n")?;
+    print_last(rt, text, last.len())?;
+    Ok(noted(tally, is_right))
 }
 
 fn count_lines(text: &[u8]) -> usize {
@@ -104,18 +112,18 @@ fn has_ends(text: &[u8], first: &[u8], last: &[u8]) -> bool {
 }
 
 // The first n bytes of a text.
-fn print_first(text: &[u8], n: usize) {
+fn print_first(rt: &impl Print, text: &[u8], n: usize) -> io::Result<()> {
     if n > text.len() {
-        return;
+        return Ok(());
     }
-    io::write_all(STDOUT_FILENO, &text[0..n]);
+    rt.write_all(&text[0..n])
 }
 
 // The last n bytes of a text.
-fn print_last(text: &[u8], n: usize) {
+fn print_last(rt: &impl Print, text: &[u8], n: usize) -> io::Result<()> {
     if n > text.len() {
-        return;
+        return Ok(());
     }
     let at = text.len() - n;
-    io::write_all(STDOUT_FILENO, &text[at..]);
+    rt.write_all(&text[at..])
 }

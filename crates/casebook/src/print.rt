@@ -1,76 +1,81 @@
 // What is printed of a case.
 use answers::Said;
 use fields::field;
-use libc::STDOUT_FILENO;
+use std::io;
 
 // Whom a case asks, its name, the answer and the first n bytes of what was lent for writing.
-pub fn print_case(asked: &[u8], line: &[u8], said: Said, buffer: &[u8], n: usize) {
-    print_name(asked, line);
-    print_said(said);
-    print_bytes(buffer, n);
+pub fn print_case(
+    rt: &impl Print,
+    asked: &[u8],
+    line: &[u8],
+    said: Said,
+    buffer: &[u8],
+    n: usize,
+) -> io::Result<()> {
+    print_name(rt, asked, line)?;
+    print_said(rt, said)?;
+    print_bytes(rt, buffer, n)
 }
 
 // Whom a case asks and its name, the first field of its line.
-pub fn print_name(asked: &[u8], line: &[u8]) {
+pub fn print_name(rt: &impl Print, asked: &[u8], line: &[u8]) -> io::Result<()> {
     let name = field(line, 0);
     let from = name.from;
     let to = name.to;
-    io::write_all(STDOUT_FILENO, asked);
-    io::write_all(STDOUT_FILENO, b" ");
-    io::write_all(STDOUT_FILENO, &line[from..to]);
-    io::write_all(STDOUT_FILENO, b": ");
+    rt.write_all(asked)?;
+    rt.write_all(b" ")?;
+    rt.write_all(&line[from..to])?;
+    rt.write_all(b": ")
 }
 
 // Number and place of an answer.
-fn print_said(said: Said) {
-    io::print_decimal(STDOUT_FILENO, said.number as u64);
-    io::write_all(STDOUT_FILENO, b" at ");
-    io::print_decimal(STDOUT_FILENO, said.place as u64);
+fn print_said(rt: &impl Print, said: Said) -> io::Result<()> {
+    rt.print(said.number)?;
+    rt.write_all(b" at ")?;
+    rt.print(said.place)
 }
 
 // The first n bytes of a buffer in hex, `-` for none. Of more than 400 the first and the last 20.
-fn print_bytes(buffer: &[u8], n: usize) {
+fn print_bytes(rt: &impl Print, buffer: &[u8], n: usize) -> io::Result<()> {
     if n > buffer.len() {
-        return;
+        return Ok(());
     }
-    io::write_all(STDOUT_FILENO, b" ");
+    rt.write_all(b" ")?;
     if n == 0 {
-        io::write_all(STDOUT_FILENO, b"-");
-        return;
+        return rt.write_all(b"-");
     }
     if n <= 400 {
-        print_hex(&buffer[0..n]);
-        return;
+        return print_hex(rt, &buffer[0..n]);
     }
-    print_hex(&buffer[0..20]);
-    io::write_all(STDOUT_FILENO, b"..");
+    print_hex(rt, &buffer[0..20])?;
+    rt.write_all(b"..")?;
     let last = n - 20;
-    print_hex(&buffer[last..n]);
+    print_hex(rt, &buffer[last..n])
 }
 
-fn print_hex(bytes: &[u8]) {
+fn print_hex(rt: &impl Print, bytes: &[u8]) -> io::Result<()> {
     let mut i = 0;
     while i < bytes.len() {
-        print_byte(bytes[i]);
+        print_byte(rt, bytes[i])?;
         i += 1;
     }
+    Ok(())
 }
 
-fn print_byte(byte: u8) {
-    io::print_hex(STDOUT_FILENO, byte as u64, 2);
+fn print_byte(rt: &impl Print, byte: u8) -> io::Result<()> {
+    print!(rt; "{byte:02x}")
 }
 
 // What was tested, and whether it is as wanted.
-pub fn print_test(tested: &[u8], is_right: bool) {
-    io::write_all(STDOUT_FILENO, b", ");
-    io::write_all(STDOUT_FILENO, tested);
+pub fn print_test(rt: &impl Print, tested: &[u8], is_right: bool) -> io::Result<()> {
+    rt.write_all(b", ")?;
+    rt.write_all(tested)?;
     if is_right {
-        io::write_all(STDOUT_FILENO, b" right");
-        return;
+        return rt.write_all(b" right");
     }
-    io::write_all(STDOUT_FILENO, b" WRONG");
+    rt.write_all(b" WRONG")
 }
 
-pub fn end_line() {
-    io::write_all(STDOUT_FILENO, b"\n");
+pub fn end_line(rt: &impl Print) -> io::Result<()> {
+    rt.write_all(b"\n")
 }

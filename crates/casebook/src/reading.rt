@@ -8,18 +8,26 @@ use answers::{Said, read_said};
 use fields::number;
 use lent::{is_written, prepare};
 use sheet::reader::read;
+use std::io;
 
 // A sheet and the row that it is to give. Fields k to k + 2 of the line are `size number place`.
-pub fn reader_row(tally: Tally, line: &[u8], k: usize, sheet: &[u8], wanted: &[u8]) -> Tally
+pub fn reader_row(
+    rt: &impl Print,
+    tally: Tally,
+    line: &[u8],
+    k: usize,
+    sheet: &[u8],
+    wanted: &[u8],
+) -> io::Result<Tally>
     requires { k < 16 }
 {
     let mut row = [0u8; 1024];
     prepare(&mut row, wanted);
     let said = given_back(sheet, &mut row, number(line, k));
-    print_case(b"reader", line, said, &row, wanted.len());
+    print_case(rt, b"reader", line, said, &row, wanted.len())?;
     let is_row = is_written(&row, wanted);
-    print_test(b"row", is_row);
-    judged(tally, line, k + 1, said, is_row)
+    print_test(rt, b"row", is_row)?;
+    judged(rt, tally, line, k + 1, said, is_row)
 }
 
 // Reads a sheet into the first bytes of a row, where it has so many.

@@ -6,6 +6,7 @@ use crate::drawing::drawer_film;
 use crate::judged::unread;
 use crate::reading::reader_row;
 use fields::bytes;
+use std::io;
 
 // What is lent, and so who is asked.
 #[derive(Clone, Copy)]
@@ -17,35 +18,57 @@ pub enum Lent {
 }
 
 // A case whose sheet is field `from` of its line, and whose `size` is field k.
-pub fn sheet_case(tally: Tally, lent: Lent, line: &[u8], from: usize, k: usize) -> Tally
+pub fn sheet_case(
+    rt: &impl Print,
+    tally: Tally,
+    lent: Lent,
+    line: &[u8],
+    from: usize,
+    k: usize,
+) -> io::Result<Tally>
     requires { k < 16 }
 {
     let mut sheet = [0u8; 1024];
     let given = bytes(line, from, &mut sheet);
     if !given.is_good {
-        return unread(tally, line);
+        return unread(rt, tally, line);
     }
     let size = given.count;
-    wanted_case(tally, lent, line, k, &sheet[..size])
+    wanted_case(rt, tally, lent, line, k, &sheet[..size])
 }
 
-fn wanted_case(tally: Tally, lent: Lent, line: &[u8], k: usize, sheet: &[u8]) -> Tally
+fn wanted_case(
+    rt: &impl Print,
+    tally: Tally,
+    lent: Lent,
+    line: &[u8],
+    k: usize,
+    sheet: &[u8],
+) -> io::Result<Tally>
     requires { k < 16 }
 {
     let mut wanted = [0u8; 4096];
     let given = bytes(line, k + 3, &mut wanted);
     if !given.is_good {
-        return unread(tally, line);
+        return unread(rt, tally, line);
     }
     let n = given.count;
-    asked(tally, lent, line, k, sheet, &wanted[..n])
+    asked(rt, tally, lent, line, k, sheet, &wanted[..n])
 }
 
-fn asked(tally: Tally, lent: Lent, line: &[u8], k: usize, sheet: &[u8], wanted: &[u8]) -> Tally
+fn asked(
+    rt: &impl Print,
+    tally: Tally,
+    lent: Lent,
+    line: &[u8],
+    k: usize,
+    sheet: &[u8],
+    wanted: &[u8],
+) -> io::Result<Tally>
     requires { k < 16 }
 {
     match lent {
-        Lent::Row => reader_row(tally, line, k, sheet, wanted),
-        Lent::Film => drawer_film(tally, line, k, sheet, wanted),
+        Lent::Row => reader_row(rt, tally, line, k, sheet, wanted),
+        Lent::Film => drawer_film(rt, tally, line, k, sheet, wanted),
     }
 }

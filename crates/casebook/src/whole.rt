@@ -3,10 +3,11 @@ use crate::Tally;
 use crate::agreement::agreement_case;
 use crate::routing::router_case;
 use crate::sheets::{Lent, sheet_case};
+use std::io;
 
-pub fn whole_case(tally: Tally, line: &[u8]) -> Tally {
-    let routed = router_case(tally, line);
-    let read = sheet_case(routed, Lent::Row, line, 8, 9);
-    let agreed = agreement_case(read, line, 8, true);
-    sheet_case(agreed, Lent::Film, line, 8, 13)
+pub fn whole_case(rt: &impl Print, tally: Tally, line: &[u8]) -> io::Result<Tally> {
+    let routed = router_case(rt, tally, line)?;
+    let read = sheet_case(rt, routed, Lent::Row, line, 8, 9)?;
+    let agreed = agreement_case(rt, read, line, 8, true)?;
+    sheet_case(rt, agreed, Lent::Film, line, 8, 13)
 }

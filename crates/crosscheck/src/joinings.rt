@@ -2,6 +2,7 @@
 // nets with some alone are these: a node that is alone is left blank.
 use secondrouter::cells::{KINDS, ROW, USED, carry, clear, larger, num, plus, set};
 use secondrouter::nets::{LONE, NOTHING};
+use std::io;
 use tallies::tally;
 
 // There are 21,147 ways to part nine nodes into nets.
@@ -38,11 +39,18 @@ fn next(store: &mut [u8], n: usize) -> bool {
 }
 
 // Tests the row under every pair of streets, and counts it at word `source`.
-fn under_all(store: &mut [u8], words: &mut [usize], n: usize, source: usize) {
+fn under_all(
+    rt: &impl Print,
+    store: &mut [u8],
+    words: &mut [usize],
+    n: usize,
+    source: usize,
+) -> io::Result<()> {
     for pair in 0..16 {
         tally::add(words, source, 1);
-        trials::trial::test(store, words, n, pair);
+        trials::trial::test(rt, store, words, n, pair)?;
     }
+    Ok(())
 }
 
 fn leave_blank(store: &mut [u8], i: usize) {
@@ -59,56 +67,78 @@ fn leave_blanks(store: &mut [u8], n: usize) {
 }
 
 // Tests the row with its lone nodes blank, and puts their labels back.
-fn test_with_blanks(store: &mut [u8], words: &mut [usize], n: usize) {
+fn test_with_blanks(
+    rt: &impl Print,
+    store: &mut [u8],
+    words: &mut [usize],
+    n: usize,
+) -> io::Result<()> {
     carry(store, ROW, USED, 0, n);
     leave_blanks(store, n);
-    under_all(store, words, n, tally::BLANK_JOININGS);
+    under_all(rt, store, words, n, tally::BLANK_JOININGS)?;
     carry(store, USED, ROW, 0, n);
+    Ok(())
 }
 
-fn test_parting(store: &mut [u8], words: &mut [usize], n: usize, blanks: bool) {
+fn test_parting(
+    rt: &impl Print,
+    store: &mut [u8],
+    words: &mut [usize],
+    n: usize,
+    blanks: bool,
+) -> io::Result<()> {
     secondrouter::nets::kinds(store, n);
     if secondrouter::nets::lone(store, n) == 0 {
         if !blanks {
-            under_all(store, words, n, tally::JOININGS);
+            under_all(rt, store, words, n, tally::JOININGS)?;
         }
     } else {
         if blanks {
-            test_with_blanks(store, words, n);
+            test_with_blanks(rt, store, words, n)?;
         }
     }
+    Ok(())
 }
 
-fn of_nodes(store: &mut [u8], words: &mut [usize], n: usize, blanks: bool) {
+fn of_nodes(
+    rt: &impl Print,
+    store: &mut [u8],
+    words: &mut [usize],
+    n: usize,
+    blanks: bool,
+) -> io::Result<()> {
     clear(store, ROW, n);
     for _ in 0..PARTINGS {
-        test_parting(store, words, n, blanks);
+        test_parting(rt, store, words, n, blanks)?;
         if !next(store, n) {
-            return;
+            return Ok(());
         }
     }
+    Ok(())
 }
 
 // Tests every joining of 2 to 9 nodes.
-pub fn test_all(store: &mut [u8], words: &mut [usize]) {
+pub fn test_all(rt: &impl Print, store: &mut [u8], words: &mut [usize]) -> io::Result<()> {
     for n in 2..10 {
-        of_nodes(store, words, n, false);
+        of_nodes(rt, store, words, n, false)?;
     }
     tally::report_source(
+        rt,
         words,
         tally::JOININGS,
         b" rows and street pairs of 2 to 9 nodes, by depth first\n",
-    );
+    )
 }
 
 // Tests every joining of 2 to 8 nodes of which at least one is blank.
-pub fn test_blanks(store: &mut [u8], words: &mut [usize]) {
+pub fn test_blanks(rt: &impl Print, store: &mut [u8], words: &mut [usize]) -> io::Result<()> {
     for n in 2..9 {
-        of_nodes(store, words, n, true);
+        of_nodes(rt, store, words, n, true)?;
     }
     tally::report_source(
+        rt,
         words,
         tally::BLANK_JOININGS,
         b" rows with blanks and street pairs of 2 to 8 nodes, by depth first\n",
-    );
+    )
 }

@@ -4,26 +4,27 @@
 mod joinings;
 
 use randomtrials::{rows, sheets};
+use std::io;
 
-fn run(store: &mut [u8; 2373376], words: &mut [usize; 74752]) {
-    joinings::test_all(store, words);
-    rows::test_short(store, words);
-    rows::test_long(store, words);
-    rows::test_lone(store, words);
-    run_blanks(store, words);
-    tallies::tally::report(words);
+fn run(rt: &impl Print, store: &mut [u8; 2373376], words: &mut [usize; 74752]) -> io::Result<()> {
+    joinings::test_all(rt, store, words)?;
+    rows::test_short(rt, store, words)?;
+    rows::test_long(rt, store, words)?;
+    rows::test_lone(rt, store, words)?;
+    run_blanks(rt, store, words)?;
+    tallies::tally::report(rt, words)
 }
 
 // Rows with blanks, and sheets.
-fn run_blanks(store: &mut [u8], words: &mut [usize]) {
-    joinings::test_blanks(store, words);
-    rows::test_short_blanks(store, words);
-    rows::test_long_blanks(store, words);
-    sheets::test_all(store, words);
+fn run_blanks(rt: &impl Print, store: &mut [u8], words: &mut [usize]) -> io::Result<()> {
+    joinings::test_blanks(rt, store, words)?;
+    rows::test_short_blanks(rt, store, words)?;
+    rows::test_long_blanks(rt, store, words)?;
+    sheets::test_all(rt, store, words)
 }
 
-fn main() {
+fn main(rt: HostRuntime) -> io::Result<()> {
     let mut store = [0u8; 2373376];
     let mut words = [0usize; 74752];
-    run(&mut store, &mut words);
+    run(&rt, &mut store, &mut words)
 }

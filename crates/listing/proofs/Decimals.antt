@@ -1,5 +1,5 @@
--- What `io` writes of a number is the number in decimal, and a number below a power of ten has no more digits than its exponent.
-use mathlib.Core.Path.{◌≡◌, refl, sym, ap₂}
+-- The fewest last digits that a number takes are the number in decimal, and a number below a power of ten has no more digits than its exponent.
+use mathlib.Core.Path.{◌≡◌, refl, sym, ap}
 use mathlib.Core.Bool.{Bool, true, false}
 use mathlib.Core.List.{List, [], ◌∷◌, ◌++◌}
 use Prim.Native.Nat.{ℕ, zero, suc, ◌+◌, ◌-◌, ◌/◌, ◌%◌, ◌^◌, ◌≤◌, ◌<◌}
@@ -7,15 +7,10 @@ use native.Mathlib.Nat.{pow-suc, one-le-pow}
 use native.Mathlib.Omega.{arith}
 use lib.ListN.{length, length-append}
 use lib.Dec.{eqb}
-use borrow.Author.Tests.{lt-ltb, eq-eqb, ne_eqb, eqb-false}
+use borrow.Author.Tests.{eq-eqb, ne_eqb, eqb-false}
 use Rattle.rules.specs.Basic.{pick}
-use Rattle.io.specs.Digits.{last_digits, hex_digit_ascii, IsDigitCount}
+use Rattle.listing.specs.Digits.{last_digits, IsDigitCount}
 use Rattle.listing.specs.Text.{leading, decimal}
-
-glyph-digit : (n : ℕ) → hex_digit_ascii (n % 10) ≡ 48 + n % 10
-glyph-digit n =
-    let h : n % 10 < 10 = omega arith in
-    rw (lt-ltb (n % 10) 10 h)
 
 -- no leading zeros: none at all, or a number that needs them all
 data Least : (k n : ℕ) → Type 0 where
@@ -26,26 +21,26 @@ least-rest : (k n : ℕ) → Least (suc k) n → Least k (n / 10)
 least-rest zero n (some l h) = none {n = n / 10} (omega (arith, pow-suc 10 0))
 least-rest (suc k) n (some l h) = some {k = k} {n = n / 10} (omega (arith, pow-suc 10 k)) (omega (arith, pow-suc 10 (suc k)))
 
-leading-digits : (f k n : ℕ) → n ≤ f → Least k n → leading f n ≡ last_digits 10 k n
+leading-digits : (f k n : ℕ) → n ≤ f → Least k n → leading f n ≡ last_digits k n
 unfolding leading pick
 leading-digits zero zero n h l = refl
 leading-digits zero (suc k) n h (some l g) = absurd (omega (arith, one-le-pow k 10 (omega arith)))
 leading-digits (suc f) zero n h (none e) = rw (eq-eqb n 0 e)
 leading-digits (suc f) (suc k) n h (some l g) =
     let z : n ≡ 0 → ⊥ = λ e. omega (arith, one-le-pow k 10 (omega arith)) in
-    rw (ne_eqb n 0 z) (ap₂ (λ (a : List ℕ) (d : ℕ). a ++ (d ∷ [])) (leading-digits f k (n / 10) (omega arith) (least-rest k n (some l g))) (sym (glyph-digit n)))
+    rw (ne_eqb n 0 z) (ap (λ (a : List ℕ). a ++ ((48 + n % 10) ∷ [])) (leading-digits f k (n / 10) (omega arith) (least-rest k n (some l g))))
 
-fewest-least : (n k : ℕ) → IsDigitCount 10 1 n (suc k) → Least k (n / 10)
+fewest-least : (n k : ℕ) → IsDigitCount n (suc k) → Least k (n / 10)
 fewest-least n zero p = none {n = n / 10} (omega (arith, p.1, pow-suc 10 0))
 fewest-least n (suc k) p =
     let d : suc (suc k) - 1 ≡ suc k = omega arith in
     let l : 10 ^ suc k ≤ n = rw d at (p.2 (omega arith)) in
     some {k = k} {n = n / 10} (omega (arith, pow-suc 10 k)) (omega (arith, p.1, pow-suc 10 (suc k)))
 
-pub fewest-decimal : (n k : ℕ) → IsDigitCount 10 1 n k → last_digits 10 k n ≡ decimal n
+pub fewest-decimal : (n k : ℕ) → IsDigitCount n k → last_digits k n ≡ decimal n
 unfolding decimal
 fewest-decimal n zero p = absurd (omega (arith, p.0))
-fewest-decimal n (suc k) p = ap₂ (λ (a : List ℕ) (d : ℕ). a ++ (d ∷ [])) (sym (leading-digits n k (n / 10) (omega arith) (fewest-least n k p))) (glyph-digit n)
+fewest-decimal n (suc k) p = ap (λ (a : List ℕ). a ++ ((48 + n % 10) ∷ [])) (sym (leading-digits n k (n / 10) (omega arith) (fewest-least n k p)))
 
 leading-short : (f k n : ℕ) → n < 10 ^ k → length (leading f n) ≤ k
 unfolding leading pick

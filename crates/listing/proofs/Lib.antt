@@ -1,5 +1,6 @@
 -- The laws that this crate's proofs cite.
 pub mod Writing
+pub mod Powers
 pub mod Decimals
 pub mod KindFields
 pub mod Lines

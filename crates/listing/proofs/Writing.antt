@@ -7,11 +7,9 @@ use native.Mathlib.Numerals.{add-one}
 use native.Mathlib.Omega.{arith}
 use lib.ListN.{length, get_or, set, take, drop, length-append, length-set}
 use lib.Seq.{sets, length-sets, sets-eq, take-suc, take_all, length-take-le}
-use Rattle.io.specs.Counts.{IsPrefixLen}
-use Rattle.io.proofs.Counting.{prefix_len_of_le}
 use Rattle.rules.specs.Answers.{written}
 use Rattle.listing.specs.Text.{closed}
-use Rattle.listing.specs.Wrote.{Wrote, Listing}
+use Rattle.listing.specs.Wrote.{Wrote, Listing, IsPrefixLen}
 
 sets-append : (a b text : List ℕ) (at : ℕ) → sets text at (a ++ b) ≡ sets (sets text at a) (at + length a) b
 sets-append [] b text at = ap (λ (k : ℕ). sets text k b) (sym (add-zero at))
@@ -87,6 +85,10 @@ wrote-listing {new} {text} {text'} {end} w h =
       ends = w.ends ∙ zero-add (length new);
       within = omega (arith, w.kept);
     }
+
+-- a bound on a count is what `&xs[..n]` asks
+pub prefix_len_of_le : (n : ℕ) (xs : List ℕ) → n ≤ length xs → IsPrefixLen n xs
+prefix_len_of_le n xs h = (h, sym (length-take-le n xs h))
 
 -- the length that is returned counts bytes of the buffer
 pub listing-counts : {new text text' : List ℕ} {end : ℕ} → Listing new text text' end → IsPrefixLen end text'

@@ -1,5 +1,5 @@
 -- What the parts of a listing ask and give: bytes put at a place of the text, and the place behind them.
-use Rattle.std.specs.Prelude.{◌≡◌, List, ℕ, ◌+◌, ◌≤◌, length}
+use Rattle.std.specs.Prelude.{◌≡◌, List, ℕ, ◌+◌, ◌≤◌, length, take}
 use Rattle.std.proofs.lemmas.List.Edits.{sets}
 use Rattle.rules.specs.declared.Routing.{Routing}
 use Rattle.rules.specs.Sheet.{size, count_of}
@@ -26,3 +26,7 @@ pub record Listing (new text text' : List ℕ) (end : ℕ) : Type 0 where
   pub is : text' ≡ written new text
   pub ends : end ≡ length new
   pub within : end ≤ length text'
+
+-- `&xs[..n]` is in bounds and has n bytes. The second part follows from the first, and spares a caller's `&buf[..n]` a proof file.
+abbrev pub IsPrefixLen : ℕ → List ℕ → Type 0
+IsPrefixLen n xs = (n ≤ length xs) × (n ≡ length (take n xs))

@@ -1,14 +1,14 @@
 // The text of the router's answer: the whole job of `listrow` between its input and its output.
 #![tactic(auto)]
 
+mod digits;
 mod nodes;
 mod put;
 
 ghost use Rattle.std.specs.Prelude.{◌≤◌, ◌<◌, length};
-ghost use Rattle.io.specs.Counts.{IsPrefixLen};
 ghost use Rattle.rules.specs.Answers.{says};
 ghost use Rattle.listing.specs.Text.{head_line, refused_line, listed, row_text, input_text};
-ghost use Rattle.listing.specs.Wrote.{Wrote, Readable, Listable, Listing};
+ghost use Rattle.listing.specs.Wrote.{Wrote, Readable, Listable, Listing, IsPrefixLen};
 
 use nodes::list_nodes;
 use put::{put_number, put_word};

@@ -3,6 +3,8 @@ ghost use Rattle.std.specs.Prelude.{◌+◌, ◌≤◌, ◌<◌, length};
 ghost use Rattle.listing.specs.Text.{decimal, closed};
 ghost use Rattle.listing.specs.Wrote.{Wrote};
 
+use crate::digits::decimal;
+
 // Puts a word and the byte that ends it at a place of the text, and returns the place behind them.
 pub fn put_word(text: &mut [u8], at: usize, word: &[u8], end: u8) -> usize
     requires { at + length word.now < length text.old }
@@ -23,6 +25,6 @@ pub fn put_number(text: &mut [u8], at: usize, n: usize, end: u8) -> usize
     ensures { Wrote text.old at (closed (decimal n) end) text.new result × (result ≤ at + 21) }
 {
     let mut digits = [0u8; 20];
-    let k = io::decimal(n as u64, &mut digits);
+    let k = decimal(n as u64, &mut digits);
     put_word(text, at, &digits[..k], end)
 }

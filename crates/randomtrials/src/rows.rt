@@ -1,6 +1,7 @@
 // Random rows of five sorts, each tested under its pair of streets.
 use randomrows::rows::{STATE, draw, fresh, make};
 use secondrouter::cells::{ROW, plus, set, set_word};
+use std::io;
 use tallies::tally;
 
 // The length of a row, by lot: 2 to 64 nodes, or 100 to 512.
@@ -21,79 +22,106 @@ pub fn share(words: &mut [usize]) -> usize {
 
 // Tests a row of this length, with such a share of blanks, and counts it at word `source`.
 fn test_one(
+    rt: &impl Print,
     store: &mut [u8],
     words: &mut [usize],
     n: usize,
     pair: usize,
     share: usize,
     source: usize,
-) {
+) -> io::Result<()> {
     make(store, words, n, pair, share);
     tally::add(words, source, 1);
     tally::count_pair(words, pair);
-    trials::trial::test(store, words, n, pair);
+    trials::trial::test(rt, store, words, n, pair)
 }
 
 // Tests `count` random rows without blanks, with every pair of streets in turn.
-fn test_sort(store: &mut [u8], words: &mut [usize], count: usize, is_long: bool, source: usize) {
+fn test_sort(
+    rt: &impl Print,
+    store: &mut [u8],
+    words: &mut [usize],
+    count: usize,
+    is_long: bool,
+    source: usize,
+) -> io::Result<()> {
     for k in 0..count {
         let n = length(words, is_long);
-        test_one(store, words, n, k % 16, 0, source);
+        test_one(rt, store, words, n, k % 16, 0, source)?;
     }
+    Ok(())
 }
 
 // Tests `count` random rows with blanks, with every pair of streets in turn.
-fn test_blanks(store: &mut [u8], words: &mut [usize], count: usize, is_long: bool, source: usize) {
+fn test_blanks(
+    rt: &impl Print,
+    store: &mut [u8],
+    words: &mut [usize],
+    count: usize,
+    is_long: bool,
+    source: usize,
+) -> io::Result<()> {
     for k in 0..count {
         let n = length(words, is_long);
         let blanks = share(words);
-        test_one(store, words, n, k % 16, blanks, source);
+        test_one(rt, store, words, n, k % 16, blanks, source)?;
     }
+    Ok(())
 }
 
 // Tests random rows of 2 to 64 nodes.
-pub fn test_short(store: &mut [u8], words: &mut [usize]) {
+pub fn test_short(rt: &impl Print, store: &mut [u8], words: &mut [usize]) -> io::Result<()> {
     set_word(words, 0, STATE, 20611);
-    test_sort(store, words, 32000, false, tally::SHORT);
+    test_sort(rt, store, words, 32000, false, tally::SHORT)?;
     tally::report_source(
+        rt,
         words,
         tally::SHORT,
         b" random rows of 2 to 64 nodes, by layers of orders\n",
-    );
+    )
 }
 
 // Tests random rows of 100 to 512 nodes.
-pub fn test_long(store: &mut [u8], words: &mut [usize]) {
-    test_sort(store, words, 1024, true, tally::LONG);
+pub fn test_long(rt: &impl Print, store: &mut [u8], words: &mut [usize]) -> io::Result<()> {
+    test_sort(rt, store, words, 1024, true, tally::LONG)?;
     tally::report_source(
+        rt,
         words,
         tally::LONG,
         b" random rows of 100 to 512 nodes, by layers of orders\n",
-    );
+    )
 }
 
 // Tests random rows of 2 to 64 nodes with blanks.
-pub fn test_short_blanks(store: &mut [u8], words: &mut [usize]) {
-    test_blanks(store, words, 24000, false, tally::BLANK_SHORT);
+pub fn test_short_blanks(rt: &impl Print, store: &mut [u8], words: &mut [usize]) -> io::Result<()> {
+    test_blanks(rt, store, words, 24000, false, tally::BLANK_SHORT)?;
     tally::report_source(
+        rt,
         words,
         tally::BLANK_SHORT,
         b" random rows with blanks of 2 to 64 nodes, by layers of orders\n",
-    );
+    )
 }
 
 // Tests random rows of 100 to 512 nodes with blanks.
-pub fn test_long_blanks(store: &mut [u8], words: &mut [usize]) {
-    test_blanks(store, words, 1024, true, tally::BLANK_LONG);
+pub fn test_long_blanks(rt: &impl Print, store: &mut [u8], words: &mut [usize]) -> io::Result<()> {
+    test_blanks(rt, store, words, 1024, true, tally::BLANK_LONG)?;
     tally::report_source(
+        rt,
         words,
         tally::BLANK_LONG,
         b" random rows with blanks of 100 to 512 nodes, by layers of orders\n",
-    );
+    )
 }
 
 // Makes a row of which one node has a label of its own, with blanks where k / 16 is odd, and tests it.
-fn test_with_lone(store: &mut [u8], words: &mut [usize], n: usize, k: usize) {
+fn test_with_lone(
+    rt: &impl Print,
+    store: &mut [u8],
+    words: &mut [usize],
+    n: usize,
+    k: usize,
+) -> io::Result<()> {
     let blanks = share(words);
     make(
         store,
@@ -105,13 +133,14 @@ fn test_with_lone(store: &mut [u8], words: &mut [usize], n: usize, k: usize) {
     let x = fresh(store, words);
     set(store, ROW, draw(words, n), x);
     tally::add(words, tally::WITH_LONE, 1);
-    trials::trial::test(store, words, n, k % 16);
+    trials::trial::test(rt, store, words, n, k % 16)
 }
 
 // Tests random rows with a lone label, half of them with blanks.
-pub fn test_lone(store: &mut [u8], words: &mut [usize]) {
+pub fn test_lone(rt: &impl Print, store: &mut [u8], words: &mut [usize]) -> io::Result<()> {
     for k in 0..1024 {
         let n = length(words, false);
-        test_with_lone(store, words, n, k);
+        test_with_lone(rt, store, words, n, k)?;
     }
+    Ok(())
 }

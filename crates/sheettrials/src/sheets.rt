@@ -6,6 +6,7 @@ use secondrouter::cells::{
     NUMBER, NUMBERS, OTHERS, OWN, ROW, answer, carry, equal, larger, less, num, plus, set, smaller,
 };
 use secondrouter::nets::{NOTHING, seek};
+use std::io;
 use tallies::patterns::{fill, keep, keeps, part, sheet_of, upto};
 use tallies::tally;
 use tallies::tally::{code, failing_part, is_wanted, within};
@@ -314,10 +315,17 @@ pub fn row_fault(store: &mut [u8], words: &mut [usize], n: usize, seed: usize) -
 }
 
 // Tests the sheet of `len` bytes with the row of `n` nodes, and counts and prints a disagreement.
-pub fn test(store: &mut [u8], words: &mut [usize], n: usize, len: usize) {
+pub fn test(
+    rt: &impl Print,
+    store: &mut [u8],
+    words: &mut [usize],
+    n: usize,
+    len: usize,
+) -> io::Result<()> {
     let seed = tally::next_sheet(words);
     let part = sheet_fault(store, words, n, len, seed);
     if part != 0 {
-        tally::disagree_sheet(store, words, n, len, part);
+        tally::disagree_sheet(rt, store, words, n, len, part)?;
     }
+    Ok(())
 }

@@ -1,17 +1,20 @@
 // Edges of the agreement test. A line is `name row sheet`.
 use casebook::{Asked, Tally, ask};
+use std::io;
 
 // Labels carry no meaning, and lengths, nets and pins do.
-pub fn agreements(tally: Tally) -> Tally {
+pub fn agreements(rt: &impl Print, tally: Tally) -> io::Result<Tally> {
     let tally = ask(
+        rt,
         tally,
         Asked::Agreement(true),
         b"
 same-labels abab 1404000860
 other-labels zyzy 1404000860
 ",
-    );
+    )?;
     ask(
+        rt,
         tally,
         Asked::Agreement(false),
         b"
@@ -25,8 +28,9 @@ shorter-row aba 1404000860
 }
 
 // Empty inputs and damaged sheets have no row that agrees.
-pub fn no_agreements(tally: Tally) -> Tally {
+pub fn no_agreements(rt: &impl Print, tally: Tally) -> io::Result<Tally> {
     ask(
+        rt,
         tally,
         Asked::Agreement(false),
         b"

@@ -1,17 +1,20 @@
 // Rows and sheets with blanks: byte FF in a row, kind 3 in a sheet. A line says what is asked, the bytes that are lent, and what is wanted (casebook).
 use casebook::{Asked, Tally, ask};
+use std::io;
 
 // Rows with the smallest s at each blank: the first two routed, read back, agreed on and drawn, round a blank and of blanks alone.
-pub fn rows(tally: Tally) -> Tally {
+pub fn rows(rt: &impl Print, tally: Tally) -> io::Result<Tally> {
     let tally = ask(
+        rt,
         tally,
         Asked::Whole,
         b"
 a_a a\xffa 1 1 2000 100 0 3 1403030800 100 0 3 00ff00 1000 0 7 8020001400002800000280180054000018004022801804540000280440408020081400
 __ \xff\xff 0 0 180 4 0 2 0002c300 2 0 2 ffff 0 0 0 -
 ",
-    );
+    )?;
     ask(
+        rt,
         tally,
         Asked::Router,
         b"
@@ -23,8 +26,9 @@ abcdef_fedcba abcdef\xfffedcba 3 3 1170 12 0 13 3c0d000000042ce286082080
 }
 
 // Check 3 spares a blank, 6 is given at none, and buffers are measured with the blanks.
-pub fn refused_rows(tally: Tally) -> Tally {
+pub fn refused_rows(rt: &impl Print, tally: Tally) -> io::Result<Tally> {
     ask(
+        rt,
         tally,
         Asked::Router,
         b"
@@ -41,8 +45,9 @@ sheet-short \xff\xff 0 0 180 3 5 0 -
 }
 
 // Any legal s is read and drawn; 16, 17 and 30 at a blank.
-pub fn sheets(tally: Tally) -> Tally {
+pub fn sheets(rt: &impl Print, tally: Tally) -> io::Result<Tally> {
     let tally = ask(
+        rt,
         tally,
         Asked::Reader,
         b"
@@ -57,8 +62,9 @@ row-short 0002c300 1 14 0 -
 16-at-a-blank 0403032800 100 16 2 -
 padding 0002c301 100 19 0 -
 ",
-    );
+    )?;
     ask(
+        rt,
         tally,
         Asked::Drawer,
         b"
@@ -73,8 +79,9 @@ __ 0002c300 0 0 0 -
 }
 
 // The same blanks are asked for, and any label stands for a net but FF.
-pub fn agreements(tally: Tally) -> Tally {
+pub fn agreements(rt: &impl Print, tally: Tally) -> io::Result<Tally> {
     let tally = ask(
+        rt,
         tally,
         Asked::Agreement(true),
         b"
@@ -83,8 +90,9 @@ another-s a\xffa 1403031800
 label-254 \xfe\xff\xfe 1403030800
 __ \xff\xff 0002c300
 ",
-    );
+    )?;
     ask(
+        rt,
         tally,
         Asked::Agreement(false),
         b"

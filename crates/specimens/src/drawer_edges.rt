@@ -1,9 +1,11 @@
 // Edges of the drawer. A line is `name sheet size number place wanted`: `size` is the bytes that are lent for the film.
 use casebook::{Asked, Tally, ask};
+use std::io;
 
 // Empty and short sheets; node counts 0, 1, 2, 513 and 1023; films exact and one byte short.
-pub fn sizes(tally: Tally) -> Tally {
+pub fn sizes(rt: &impl Print, tally: Tally) -> io::Result<Tally> {
     ask(
+        rt,
         tally,
         Asked::Drawer,
         b"
@@ -21,8 +23,9 @@ one-long 1002020000 1000 13 0 -
 }
 
 // Track counts of 3, 4 and 15; films exact and one byte short.
-pub fn streets_and_films(tally: Tally) -> Tally {
+pub fn streets_and_films(rt: &impl Print, tally: Tally) -> io::Result<Tally> {
     ask(
+        rt,
         tally,
         Asked::Drawer,
         b"
@@ -40,8 +43,9 @@ film-short-for-8 1404000860 39 21 0 -
 }
 
 // Each fault of a sheet with no film lent: it is given before 21.
-pub fn faults(tally: Tally) -> Tally {
+pub fn faults(rt: &impl Print, tally: Tally) -> io::Result<Tally> {
     ask(
+        rt,
         tally,
         Asked::Drawer,
         b"
@@ -62,8 +66,9 @@ padding 10020208 0 19 0 -
 }
 
 // Several causes at once, with no film lent.
-pub fn causes_in_turn(tally: Tally) -> Tally {
+pub fn causes_in_turn(rt: &impl Print, tally: Tally) -> io::Result<Tally> {
     ask(
+        rt,
         tally,
         Asked::Drawer,
         b"

@@ -12,55 +12,55 @@ mod specimens;
 mod worked;
 
 use casebook::{Tally, print_tally, start};
-use libc::STDOUT_FILENO;
+use std::io;
 
-fn main() {
-    io::write_all(
-        STDOUT_FILENO,
+fn main(rt: HostRuntime) -> io::Result<()> {
+    rt.write_all(
         b"whom, case: number at place, bytes written; then whether answer and every byte lent are what documents 01 and 02 say\n",
-    );
-    let tally = named(start());
-    let tally = router_and_reader(tally);
-    let tally = drawer_and_agreement(tally);
-    print_tally(listed(tally));
+    )?;
+    let tally = named(&rt, start())?;
+    let tally = router_and_reader(&rt, tally)?;
+    let tally = drawer_and_agreement(&rt, tally)?;
+    let tally = listed(&rt, tally)?;
+    print_tally(&rt, tally)
 }
 
-fn named(tally: Tally) -> Tally {
-    let tally = specimens::accepted_rows(tally);
-    let tally = specimens::refused_rows(tally);
-    let tally = specimens::refused_sheets(tally);
-    let tally = blanks::rows(tally);
-    let tally = blanks::refused_rows(tally);
-    let tally = blanks::sheets(tally);
-    let tally = blanks::agreements(tally);
-    worked::net_lists(tally)
+fn named(rt: &impl Print, tally: Tally) -> io::Result<Tally> {
+    let tally = specimens::accepted_rows(rt, tally)?;
+    let tally = specimens::refused_rows(rt, tally)?;
+    let tally = specimens::refused_sheets(rt, tally)?;
+    let tally = blanks::rows(rt, tally)?;
+    let tally = blanks::refused_rows(rt, tally)?;
+    let tally = blanks::sheets(rt, tally)?;
+    let tally = blanks::agreements(rt, tally)?;
+    worked::net_lists(rt, tally)
 }
 
-fn router_and_reader(tally: Tally) -> Tally {
-    let tally = router_edges::rows_and_streets(tally);
-    let tally = router_edges::buffers(tally);
-    let tally = router_edges::causes_in_turn(tally);
-    let tally = reader_edges::sizes(tally);
-    let tally = reader_edges::streets_and_rows(tally);
-    let tally = reader_edges::faults(tally);
-    reader_edges::causes_in_turn(tally)
+fn router_and_reader(rt: &impl Print, tally: Tally) -> io::Result<Tally> {
+    let tally = router_edges::rows_and_streets(rt, tally)?;
+    let tally = router_edges::buffers(rt, tally)?;
+    let tally = router_edges::causes_in_turn(rt, tally)?;
+    let tally = reader_edges::sizes(rt, tally)?;
+    let tally = reader_edges::streets_and_rows(rt, tally)?;
+    let tally = reader_edges::faults(rt, tally)?;
+    reader_edges::causes_in_turn(rt, tally)
 }
 
-fn drawer_and_agreement(tally: Tally) -> Tally {
-    let tally = drawer_edges::sizes(tally);
-    let tally = drawer_edges::streets_and_films(tally);
-    let tally = drawer_edges::faults(tally);
-    let tally = drawer_edges::causes_in_turn(tally);
-    let tally = agreement_edges::agreements(tally);
-    agreement_edges::no_agreements(tally)
+fn drawer_and_agreement(rt: &impl Print, tally: Tally) -> io::Result<Tally> {
+    let tally = drawer_edges::sizes(rt, tally)?;
+    let tally = drawer_edges::streets_and_films(rt, tally)?;
+    let tally = drawer_edges::faults(rt, tally)?;
+    let tally = drawer_edges::causes_in_turn(rt, tally)?;
+    let tally = agreement_edges::agreements(rt, tally)?;
+    agreement_edges::no_agreements(rt, tally)
 }
 
-fn listed(tally: Tally) -> Tally {
-    let tally = long::most_nodes(tally);
-    let tally = long::most_nets(tally);
-    let tally = long::too_many_nodes(tally);
-    let tally = listings::short_inputs(tally);
-    let tally = listings::blank_inputs(tally);
-    let tally = listings::refused_inputs(tally);
-    listings::long_inputs(tally)
+fn listed(rt: &impl Print, tally: Tally) -> io::Result<Tally> {
+    let tally = long::most_nodes(rt, tally)?;
+    let tally = long::most_nets(rt, tally)?;
+    let tally = long::too_many_nodes(rt, tally)?;
+    let tally = listings::short_inputs(rt, tally)?;
+    let tally = listings::blank_inputs(rt, tally)?;
+    let tally = listings::refused_inputs(rt, tally)?;
+    listings::long_inputs(rt, tally)
 }

@@ -1,9 +1,11 @@
 // Edges of the reader. A line is `name sheet size number place wanted`: `size` is the bytes that are lent for the row.
 use casebook::{Asked, Tally, ask};
+use std::io;
 
 // Empty and short sheets; node counts 0, 1, 2, 513 and 1023.
-pub fn sizes(tally: Tally) -> Tally {
+pub fn sizes(rt: &impl Print, tally: Tally) -> io::Result<Tally> {
     ask(
+        rt,
         tally,
         Asked::Reader,
         b"
@@ -22,8 +24,9 @@ head-alone 1002 100 13 0 -
 }
 
 // Track counts of 3, 4 and 15; row buffers exact and one byte short.
-pub fn streets_and_rows(tally: Tally) -> Tally {
+pub fn streets_and_rows(rt: &impl Print, tally: Tally) -> io::Result<Tally> {
     ask(
+        rt,
         tally,
         Asked::Reader,
         b"
@@ -41,8 +44,9 @@ row-short-for-4 1404000860 3 14 0 -
 }
 
 // Each fault of a node, each limit, nets left open, padding.
-pub fn faults(tally: Tally) -> Tally {
+pub fn faults(rt: &impl Print, tally: Tally) -> io::Result<Tally> {
     ask(
+        rt,
         tally,
         Asked::Reader,
         b"
@@ -63,8 +67,9 @@ padding 10020208 100 19 0 -
 }
 
 // Several causes at once: the earliest test decides, and of two nodes the left one.
-pub fn causes_in_turn(tally: Tally) -> Tally {
+pub fn causes_in_turn(rt: &impl Print, tally: Tally) -> io::Result<Tally> {
     ask(
+        rt,
         tally,
         Asked::Reader,
         b"

@@ -1,9 +1,11 @@
 // Edges of the router. A line is `name row Ku Kl work sheet number place wanted`: `work` and `sheet` are the bytes that are lent.
 use casebook::{Asked, Tally, ask};
+use std::io;
 
 // Rows of 0, 1 and 2 nodes; streets of 3, 4 and 255 tracks.
-pub fn rows_and_streets(tally: Tally) -> Tally {
+pub fn rows_and_streets(rt: &impl Print, tally: Tally) -> io::Result<Tally> {
     ask(
+        rt,
         tally,
         Asked::Router,
         b"
@@ -22,8 +24,9 @@ streets-of-3 aa 3 3 1000 100 0 2 3c020200
 }
 
 // Buffers exact and one byte short, of 2 to 5 nodes: the four lengths of padding.
-pub fn buffers(tally: Tally) -> Tally {
+pub fn buffers(rt: &impl Print, tally: Tally) -> io::Result<Tally> {
     ask(
+        rt,
         tally,
         Asked::Router,
         b"
@@ -44,8 +47,9 @@ sheet-short-for-5 aaaaa 1 0 450 5 5 0 -
 }
 
 // Two causes at once: the smaller number is given.
-pub fn causes_in_turn(tally: Tally) -> Tally {
+pub fn causes_in_turn(rt: &impl Print, tally: Tally) -> io::Result<Tally> {
     ask(
+        rt,
         tally,
         Asked::Router,
         b"

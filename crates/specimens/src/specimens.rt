@@ -1,9 +1,11 @@
 // S1 to S12 of document 01, S12 with request 6's number, with more bytes lent than are needed. A line says what is asked, the bytes that are lent, and what is wanted (casebook).
 use casebook::{Asked, Tally, ask};
+use std::io;
 
 // Routed, read back, agreed on and drawn.
-pub fn accepted_rows(tally: Tally) -> Tally {
+pub fn accepted_rows(rt: &impl Print, tally: Tally) -> io::Result<Tally> {
     ask(
+        rt,
         tally,
         Asked::Whole,
         b"
@@ -16,8 +18,9 @@ S8 abcabcabc 2 2 2000 100 0 9 28090000124508a180 100 0 9 000102000102000102 1000
     )
 }
 
-pub fn refused_rows(tally: Tally) -> Tally {
+pub fn refused_rows(rt: &impl Print, tally: Tally) -> io::Result<Tally> {
     ask(
+        rt,
         tally,
         Asked::Router,
         b"
@@ -30,24 +33,27 @@ S10 aab 1 1 1000 100 3 3 -
     )
 }
 
-pub fn refused_sheets(tally: Tally) -> Tally {
+pub fn refused_sheets(rt: &impl Print, tally: Tally) -> io::Result<Tally> {
     let tally = ask(
+        rt,
         tally,
         Asked::Reader,
         b"
 S11 10020201 100 19 0 -
 S12 10020000 100 30 2 -
 ",
-    );
+    )?;
     let tally = ask(
+        rt,
         tally,
         Asked::Drawer,
         b"
 S11 10020201 1000 19 0 -
 S12 10020000 1000 30 2 -
 ",
-    );
+    )?;
     ask(
+        rt,
         tally,
         Asked::Agreement(false),
         b"

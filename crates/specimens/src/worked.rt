@@ -1,9 +1,11 @@
 // Worked net lists of the source documents, routed, read back, agreed on and drawn. Wanted rows and films were computed by another implementation.
 use casebook::{Asked, Tally, ask};
+use std::io;
 
 // Those of document 000 whose streets are at most 3, and one of document 003.
-pub fn net_lists(tally: Tally) -> Tally {
+pub fn net_lists(rt: &impl Print, tally: Tally) -> io::Result<Tally> {
     ask(
+        rt,
         tally,
         Asked::Whole,
         b"

@@ -1,6 +1,6 @@
 // The counts of all trials, and their printing.
-use libc::STDOUT_FILENO;
 use secondrouter::cells::{NUMBER, ROW, SHEET, answer, larger, num, plus, set_word, smaller, word};
+use std::io;
 
 pub const ROWS: usize = 0;
 
@@ -169,44 +169,59 @@ fn most(words: &[usize]) -> usize {
 }
 
 // A number, and words.
-fn line(x: usize, text: &[u8]) {
-    io::print_decimal(STDOUT_FILENO, x as u64);
-    io::write_all(STDOUT_FILENO, text);
+fn line(rt: &impl Print, x: usize, text: &[u8]) -> io::Result<()> {
+    rt.print(x)?;
+    rt.write_all(text)
 }
 
-fn write_hex(store: &[u8], base: usize, n: usize) {
+fn write_hex(rt: &impl Print, store: &[u8], base: usize, n: usize) -> io::Result<()> {
     for i in 0..n {
-        io::print_hex(STDOUT_FILENO, num(store, base, i) as u64, 2);
+        let x = num(store, base, i);
+        print!(rt; "{x:02x}")?;
     }
-    io::write_all(STDOUT_FILENO, b"\n");
+    rt.write_all(b"\n")
 }
 
-fn write_answer(answer: usize) {
-    line(answer / NUMBER, b" at ");
-    line(answer % NUMBER, b", ");
+fn write_answer(rt: &impl Print, answer: usize) -> io::Result<()> {
+    line(rt, answer / NUMBER, b" at ")?;
+    line(rt, answer % NUMBER, b", ")
 }
 
-fn write_answers(words: &[usize]) {
-    write_answer(word(words, 0, SAID));
-    write_answer(word(words, 0, WANTED));
+fn write_answers(rt: &impl Print, words: &[usize]) -> io::Result<()> {
+    write_answer(rt, word(words, 0, SAID))?;
+    write_answer(rt, word(words, 0, WANTED))
 }
 
-fn write_row(store: &[u8], words: &[usize], n: usize, pair: usize, fault: usize) {
-    line(fault, b" part, Ku Kl ");
-    line(pair / 4, b" ");
-    line(pair % 4, b", said and wanted ");
-    write_answers(words);
-    line(n, b" nodes ");
-    write_hex(store, ROW, n);
+fn write_row(
+    rt: &impl Print,
+    store: &[u8],
+    words: &[usize],
+    n: usize,
+    pair: usize,
+    fault: usize,
+) -> io::Result<()> {
+    line(rt, fault, b" part, Ku Kl ")?;
+    line(rt, pair / 4, b" ")?;
+    line(rt, pair % 4, b", said and wanted ")?;
+    write_answers(rt, words)?;
+    line(rt, n, b" nodes ")?;
+    write_hex(rt, store, ROW, n)
 }
 
-fn write_sheet(store: &[u8], words: &[usize], n: usize, len: usize, fault: usize) {
-    line(fault, b" part of a sheet, said and wanted ");
-    write_answers(words);
-    line(len, b" bytes ");
-    write_hex(store, SHEET, len);
-    line(n, b" nodes ");
-    write_hex(store, ROW, n);
+fn write_sheet(
+    rt: &impl Print,
+    store: &[u8],
+    words: &[usize],
+    n: usize,
+    len: usize,
+    fault: usize,
+) -> io::Result<()> {
+    line(rt, fault, b" part of a sheet, said and wanted ")?;
+    write_answers(rt, words)?;
+    line(rt, len, b" bytes ")?;
+    write_hex(rt, store, SHEET, len)?;
+    line(rt, n, b" nodes ")?;
+    write_hex(rt, store, ROW, n)
 }
 
 // Counts a disagreement, and says whether it is one of the first few, which are printed.
@@ -216,17 +231,33 @@ fn is_shown(words: &mut [usize]) -> bool {
 }
 
 // Counts a disagreement on a row, and prints the first few: the part, Ku, Kl, the answer given, the answer wanted, and the row in hexadecimal.
-pub fn disagree(store: &[u8], words: &mut [usize], n: usize, pair: usize, fault: usize) {
+pub fn disagree(
+    rt: &impl Print,
+    store: &[u8],
+    words: &mut [usize],
+    n: usize,
+    pair: usize,
+    fault: usize,
+) -> io::Result<()> {
     if is_shown(words) {
-        write_row(store, words, n, pair, fault);
+        write_row(rt, store, words, n, pair, fault)?;
     }
+    Ok(())
 }
 
 // Counts a disagreement on a sheet of `len` bytes, tried with a row of `n` nodes, and prints the first few: the part, the two answers, the sheet and the row.
-pub fn disagree_sheet(store: &[u8], words: &mut [usize], n: usize, len: usize, fault: usize) {
+pub fn disagree_sheet(
+    rt: &impl Print,
+    store: &[u8],
+    words: &mut [usize],
+    n: usize,
+    len: usize,
+    fault: usize,
+) -> io::Result<()> {
     if is_shown(words) {
-        write_sheet(store, words, n, len, fault);
+        write_sheet(rt, store, words, n, len, fault)?;
     }
+    Ok(())
 }
 
 fn clear_answers(words: &mut [usize]) {
@@ -235,81 +266,96 @@ fn clear_answers(words: &mut [usize]) {
     set_word(words, 0, LATE, 0);
 }
 
-fn report_answers(words: &[usize]) {
-    line(word(words, 0, ACCEPTED), b" accepted\n");
-    line(word(words, 0, NO_PLACING), b" refused with 6\n");
+fn report_answers(rt: &impl Print, words: &[usize]) -> io::Result<()> {
+    line(rt, word(words, 0, ACCEPTED), b" accepted\n")?;
+    line(rt, word(words, 0, NO_PLACING), b" refused with 6\n")?;
     line(
+        rt,
         word(words, 0, LATE),
         b" of these at a node in the second half\n",
-    );
+    )
 }
 
 // Prints how many rows a source had, which is at word `i`, and their answers, and begins these anew.
-pub fn report_source(words: &mut [usize], i: usize, text: &[u8]) {
-    line(word(words, 0, i), text);
-    report_answers(words);
+pub fn report_source(
+    rt: &impl Print,
+    words: &mut [usize],
+    i: usize,
+    text: &[u8],
+) -> io::Result<()> {
+    line(rt, word(words, 0, i), text)?;
+    report_answers(rt, words)?;
     clear_answers(words);
+    Ok(())
 }
 
-fn report_pairs(words: &[usize]) {
+fn report_pairs(rt: &impl Print, words: &[usize]) -> io::Result<()> {
     line(
+        rt,
         least(words),
         b" random rows under the least tried pair of streets\n",
-    );
+    )?;
     line(
+        rt,
         most(words),
         b" random rows under the most tried pair of streets\n",
-    );
+    )
 }
 
-fn report_early(words: &[usize]) {
-    line(word(words, 0, WITH_LONE), b" rows with a lone label\n");
-    line(word(words, 0, LONE_FOUND), b" refused with 3\n");
-    line(word(words, 0, EARLY), b" calls refused with 2, 4 or 5\n");
+fn report_early(rt: &impl Print, words: &[usize]) -> io::Result<()> {
+    line(rt, word(words, 0, WITH_LONE), b" rows with a lone label\n")?;
+    line(rt, word(words, 0, LONE_FOUND), b" refused with 3\n")?;
+    line(
+        rt,
+        word(words, 0, EARLY),
+        b" calls refused with 2, 4 or 5\n",
+    )
 }
 
-fn report_sheets(words: &[usize]) {
-    line(word(words, 0, READ), b" sheets read back\n");
-    line(word(words, 0, AGREED), b" agreements\n");
-    line(word(words, 0, UNLIKE), b" rows do not agree\n");
+fn report_sheets(rt: &impl Print, words: &[usize]) -> io::Result<()> {
+    line(rt, word(words, 0, READ), b" sheets read back\n")?;
+    line(rt, word(words, 0, AGREED), b" agreements\n")?;
+    line(rt, word(words, 0, UNLIKE), b" rows do not agree\n")
 }
 
 // Prints how often reader and drawer said a number, if they did.
-fn report_number(words: &[usize], number: usize) {
+fn report_number(rt: &impl Print, words: &[usize], number: usize) -> io::Result<()> {
     let read = word(words, READER, number);
     let drawn = word(words, DRAWER, number);
     if plus(read, drawn) == 0 {
-        return;
+        return Ok(());
     }
-    line(number, b" said ");
-    line(read, b" times by the reader, ");
-    line(drawn, b" by the drawer\n");
+    line(rt, number, b" said ")?;
+    line(rt, read, b" times by the reader, ")?;
+    line(rt, drawn, b" by the drawer\n")
 }
 
-fn report_numbers(words: &[usize]) {
+fn report_numbers(rt: &impl Print, words: &[usize]) -> io::Result<()> {
     for number in 0..32 {
-        report_number(words, number);
+        report_number(rt, words, number)?;
     }
+    Ok(())
 }
 
-fn report_films(words: &[usize]) {
+fn report_films(rt: &impl Print, words: &[usize]) -> io::Result<()> {
     line(
+        rt,
         word(words, 0, SHORT_FILMS),
         b" films a byte short refused with 21\n",
-    );
-    line(word(words, 0, FILMS), b" films\n");
-    line(word(words, 0, RECORDS), b" records\n");
-    line(word(words, 0, POINTS), b" points\n");
+    )?;
+    line(rt, word(words, 0, FILMS), b" films\n")?;
+    line(rt, word(words, 0, RECORDS), b" records\n")?;
+    line(rt, word(words, 0, POINTS), b" points\n")
 }
 
 // Prints the counts over all sources, and last how many rows and sheets disagree.
-pub fn report(words: &[usize]) {
-    report_pairs(words);
-    report_early(words);
-    report_sheets(words);
-    report_numbers(words);
-    report_films(words);
-    line(word(words, 0, SHEETS), b" sheets by lot\n");
-    line(word(words, 0, ROWS), b" rows, ");
-    line(word(words, 0, DISAGREEMENTS), b" disagreements\n");
+pub fn report(rt: &impl Print, words: &[usize]) -> io::Result<()> {
+    report_pairs(rt, words)?;
+    report_early(rt, words)?;
+    report_sheets(rt, words)?;
+    report_numbers(rt, words)?;
+    report_films(rt, words)?;
+    line(rt, word(words, 0, SHEETS), b" sheets by lot\n")?;
+    line(rt, word(words, 0, ROWS), b" rows, ")?;
+    line(rt, word(words, 0, DISAGREEMENTS), b" disagreements\n")
 }

@@ -1,6 +1,7 @@
 // One row under one pair of streets: every answer and every byte of the library against the second router's.
 use secondfilm::sheets::{sheet_need, work_need};
 use secondrouter::cells::{OTHERS, OWN, PLACES, SHEET, answer, equal, less, plus};
+use std::io;
 use tallies::patterns::{fill, is_clear, keep, keeps, upto};
 use tallies::tally;
 use tallies::tally::{code, is_wanted};
@@ -266,10 +267,17 @@ fn fault(store: &mut [u8], words: &mut [usize], n: usize, pair: usize, seed: usi
 }
 
 // Tests the first `n` nodes of the row, and counts and prints a disagreement.
-pub fn test(store: &mut [u8], words: &mut [usize], n: usize, pair: usize) {
+pub fn test(
+    rt: &impl Print,
+    store: &mut [u8],
+    words: &mut [usize],
+    n: usize,
+    pair: usize,
+) -> io::Result<()> {
     let seed = tally::next_row(words);
     let part = fault(store, words, n, pair, seed);
     if part != 0 {
-        tally::disagree(store, words, n, pair, part);
+        tally::disagree(rt, store, words, n, pair, part)?;
     }
+    Ok(())
 }

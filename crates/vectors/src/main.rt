@@ -12,8 +12,10 @@ use ask_drawer::drawer_line;
 use ask_reader::reader_line;
 use ask_router::router_line;
 use fields::find;
-use libc::STDOUT_FILENO;
+use std::io::Read;
 use std::num::wrapping_add_u64;
+use std::rt::Files;
+use std::{fs, io};
 use told::has_blank;
 
 // Whom the lines of a file ask.
@@ -27,52 +29,48 @@ enum Asked {
 
 const TEXT: usize = 1048576;
 
-fn main() {
-    ask_right();
-    ask_wrong();
+fn main(rt: HostRuntime) -> io::Result<()> {
+    ask_right(&rt)?;
+    ask_wrong(&rt)
 }
 
 // Specimens and vectors, with which the library is to agree.
-fn ask_right() {
-    ask(Asked::Router, b"specimens.txt");
-    ask(Asked::Reader, b"specimen-sheets.txt");
-    ask(Asked::Drawer, b"specimen-sheets.txt");
-    ask(Asked::Router, b"router.txt");
-    ask(Asked::Reader, b"sheets.txt");
-    ask(Asked::Drawer, b"sheets.txt");
-    ask(Asked::Agreement, b"agree.txt");
+fn ask_right(rt: &(impl Files + Alloc + Print)) -> io::Result<()> {
+    ask(rt, Asked::Router, "specimens.txt")?;
+    ask(rt, Asked::Reader, "specimen-sheets.txt")?;
+    ask(rt, Asked::Drawer, "specimen-sheets.txt")?;
+    ask(rt, Asked::Router, "router.txt")?;
+    ask(rt, Asked::Reader, "sheets.txt")?;
+    ask(rt, Asked::Drawer, "sheets.txt")?;
+    ask(rt, Asked::Agreement, "agree.txt")
 }
 
 // Lines each of which has something wrong, so that every one is to disagree.
-fn ask_wrong() {
-    ask(Asked::Router, b"wrong-router.txt");
-    ask(Asked::Reader, b"wrong-sheets.txt");
-    ask(Asked::Drawer, b"wrong-films.txt");
-    ask(Asked::Agreement, b"wrong-agree.txt");
+fn ask_wrong(rt: &(impl Files + Alloc + Print)) -> io::Result<()> {
+    ask(rt, Asked::Router, "wrong-router.txt")?;
+    ask(rt, Asked::Reader, "wrong-sheets.txt")?;
+    ask(rt, Asked::Drawer, "wrong-films.txt")?;
+    ask(rt, Asked::Agreement, "wrong-agree.txt")
 }
 
 // Reads a file of under 1,048,576 bytes, and answers it.
-fn ask(asked: Asked, path: &[u8]) {
-    let fd = os::open_read(path);
-    if fd < 0 {
-        os::fail(path);
-        return;
-    }
-    let mut text = [0u8; TEXT];
-    let n = io::read_full(fd, &mut text);
-    libc::close(fd);
-    answer(asked, path, &text[..n]);
+fn ask(rt: &(impl Files + Alloc + Print), asked: Asked, path: &str) -> io::Result<()> {
+    let mut text = Vec::new(rt.alloc());
+    fs::open(rt, path)?
+        .take(TEXT as u64)
+        .read_to_end(&mut text)?;
+    answer(rt, asked, path, &text)
 }
 
 // Answers the lines of a text, and reports; it says so where the text may be cut short.
-fn answer(asked: Asked, path: &[u8], text: &[u8]) {
+fn answer(rt: &impl Print, asked: Asked, path: &str, text: &[u8]) -> io::Result<()> {
     if text.len() == TEXT {
-        io::write_all(STDOUT_FILENO, b"too long: ");
+        rt.write_all(b"too long: ")?;
     }
     let mut counts = [0u64; 32];
-    let seen = lines(asked, path, text, &mut counts);
-    report(path, total(&counts), seen);
-    print_counts(&counts);
+    let seen = lines(rt, asked, path, text, &mut counts)?;
+    report(rt, path, total(&counts), seen)?;
+    print_counts(rt, &counts)
 }
 
 // Of a text's lines: how many disagree, and the row of how many has a blank.
@@ -83,7 +81,13 @@ struct Seen {
 }
 
 // Asks every line of a text; `counts` gains one at each answer's number.
-fn lines(asked: Asked, path: &[u8], text: &[u8], counts: &mut [u64; 32]) -> Seen {
+fn lines(
+    rt: &impl Print,
+    asked: Asked,
+    path: &str,
+    text: &[u8],
+    counts: &mut [u64; 32],
+) -> io::Result<Seen> {
     let mut wrong = 0;
     let mut blanks = 0;
     let mut line = 0;
@@ -92,11 +96,11 @@ fn lines(asked: Asked, path: &[u8], text: &[u8], counts: &mut [u64; 32]) -> Seen
         let end = find(text, at, b'\n');
         let is_right = line_right(asked, &text[at..end], counts);
         line = wrapping_add_u64(line, 1);
-        wrong = noted(path, line, is_right, wrong);
+        wrong = noted(rt, path, line, is_right, wrong)?;
         blanks = blanks_after(asked, &text[at..end], blanks);
         at = end + 1;
     }
-    Seen { wrong, blanks }
+    Ok(Seen { wrong, blanks })
 }
 
 // The number of lines whose row has a blank, after this one.
@@ -127,36 +131,29 @@ fn line_right(asked: Asked, line: &[u8], counts: &mut [u64; 32]) -> bool {
 }
 
 // The number of lines that disagree, after this one. The first eight of a file are named.
-fn noted(path: &[u8], line: u64, is_right: bool, wrong: u64) -> u64 {
+fn noted(rt: &impl Print, path: &str, line: u64, is_right: bool, wrong: u64) -> io::Result<u64> {
     if is_right {
-        return wrong;
+        return Ok(wrong);
     }
     if wrong < 8 {
-        io::write_all(STDOUT_FILENO, path);
-        io::write_all(STDOUT_FILENO, b": line ");
-        io::print_decimal(STDOUT_FILENO, line);
-        io::write_all(STDOUT_FILENO, b" disagrees\n");
+        println!(rt; "{path}: line {line} disagrees")?;
     }
-    wrapping_add_u64(wrong, 1)
+    Ok(wrapping_add_u64(wrong, 1))
 }
 
-fn report(path: &[u8], answers: u64, seen: Seen) {
-    io::write_all(STDOUT_FILENO, path);
-    io::write_all(STDOUT_FILENO, b": ");
-    io::print_decimal(STDOUT_FILENO, answers);
-    io::write_all(STDOUT_FILENO, b" answers, ");
-    io::print_decimal(STDOUT_FILENO, seen.wrong);
-    io::write_all(STDOUT_FILENO, b" disagreements, ");
-    io::print_decimal(STDOUT_FILENO, seen.blanks);
-    io::write_all(STDOUT_FILENO, b" rows with a blank\n");
+fn report(rt: &impl Print, path: &str, answers: u64, seen: Seen) -> io::Result<()> {
+    let wrong = seen.wrong;
+    let blanks = seen.blanks;
+    println!(rt; "{path}: {answers} answers, {wrong} disagreements, {blanks} rows with a blank")
 }
 
-fn print_counts(counts: &[u64; 32]) {
+fn print_counts(rt: &impl Print, counts: &[u64; 32]) -> io::Result<()> {
     let mut k = 0;
     while k < 32 {
-        print_count(k as u64, counts[k]);
+        print_count(rt, k as u64, counts[k])?;
         k += 1;
     }
+    Ok(())
 }
 
 fn total(counts: &[u64; 32]) -> u64 {
@@ -170,13 +167,9 @@ fn total(counts: &[u64; 32]) -> u64 {
 }
 
 // A number and how often it was answered, where it was.
-fn print_count(number: u64, count: u64) {
+fn print_count(rt: &impl Print, number: u64, count: u64) -> io::Result<()> {
     if count == 0 {
-        return;
+        return Ok(());
     }
-    io::write_all(STDOUT_FILENO, b"  answer ");
-    io::print_decimal(STDOUT_FILENO, number);
-    io::write_all(STDOUT_FILENO, b": ");
-    io::print_decimal(STDOUT_FILENO, count);
-    io::write_all(STDOUT_FILENO, b"\n");
+    println!(rt; "  answer {number}: {count}")
 }

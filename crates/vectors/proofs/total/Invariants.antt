@@ -1,0 +1,6 @@
+-- The measure is what is left of 32.
+use Rattle.std.proofs.Common.{◌-◌}
+use Rattle.vectors.proofs.total.Given as goal
+
+abbrev pub decreases-loop-k : goal.decreases-loop-k
+decreases-loop-k l = 32 - l.k
