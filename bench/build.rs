@@ -12,7 +12,7 @@ fn main() {
     println!("cargo::rerun-if-changed={}", archive.display());
     if !archive.is_file() {
         eprintln!(
-            "The library's archive {} is not there: run `rt staticlib capi` in the repository's root first.",
+            "The library's archive {} is not there: run `scripts/staticlib capi` in the repository's root first.",
             archive.display()
         );
         exit(1);

@@ -1,6 +1,6 @@
 /* Routes a row, reads its sheet back and draws its wires. Each character of the row is a label, and an underscore is a blank.
  *
- *     rt staticlib capi && cc -std=c11 -Iinclude -o target/route_row examples/route_row.c target/staticlib/libcapi.a && target/route_row 2 1 abcbac
+ *     scripts/staticlib capi && cc -std=c11 -Iinclude -o target/route_row examples/route_row.c target/staticlib/libcapi.a && target/route_row 2 1 abcbac
  */
 #include "niraflue.h"
 

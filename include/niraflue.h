@@ -14,7 +14,7 @@
  * An answer is number * 2^32 + place. Number 0 is accepted, any other a refusal; place is 0 unless it is named below. Numbers are tested in the order of
  * the lists, and node numbers count from 1.
  *
- * Link with libcapi.a, which `rt staticlib capi` writes to target/staticlib/. */
+ * Link with libcapi.a, which `scripts/staticlib capi` writes to target/staticlib/. */
 #ifndef NIRAFLUE_H
 #define NIRAFLUE_H
 

@@ -28,7 +28,7 @@ def means(command, calls, mark):
 
 def library(rows, calls):
     """The same of the library's calls: builds the crate `measure` and bench/measure.c, and runs them on the rows of a file. In the repository's root."""
-    build(['rt', 'staticlib', 'measure'])
+    build(['scripts/staticlib', 'measure'])
     with tempfile.TemporaryDirectory() as folder:
         build(['cc', '-O2', '-o', f'{folder}/measure', 'bench/measure.c', 'target/staticlib/libmeasure.a'])
         return means([f'{folder}/measure', rows], [f'measure_{name}' for name in calls], 'measure_mark')
