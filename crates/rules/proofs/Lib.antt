@@ -23,4 +23,6 @@ pub mod Blanks
 pub mod Bare
 pub mod Without
 pub mod Levels
+pub mod FilmBytes
+pub mod FilmSpecimens
 pub mod Specimens

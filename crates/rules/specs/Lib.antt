@@ -5,5 +5,6 @@ pub mod Bits
 pub mod Sheet
 pub mod Film
 pub mod WireRules
+pub mod FilmOrder
 pub mod Judgement
 pub mod Answers

@@ -2,5 +2,6 @@
 #![tactic(auto)]
 
 pub mod fields;
+pub mod order;
 pub mod sheets;
 pub mod wires;

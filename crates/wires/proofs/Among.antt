@@ -1,8 +1,9 @@
--- What holds of every element of a list, and lists that have one element more than another, wherever it stands.
-use mathlib.Core.Path.{◌≡◌, refl, sym, subst}
+-- What holds of every element of a list, lists that have one element more than another, wherever it stands, and lists in another order.
+use mathlib.Core.Path.{◌≡◌, refl, sym, ap, ◌∙◌, subst}
 use mathlib.Core.Bool.{Bool, true, false}
+use mathlib.Core.List.Memᴰ
 use mathlib.Core.List.{List, [], ◌∷◌, ◌++◌, Memᴰ}
-use mathlib.Core.Logic.{◌⊎◌, inl, inr}
+use mathlib.Core.Logic.{◌⊎◌, inl, inr, ◌↔◌}
 use Prim.Native.Nat.{ℕ, zero, suc, ◌≤◌, ◌<◌}
 use native.Mathlib.Omega.{arith}
 use lib.ListN.{length, get_or}
@@ -45,6 +46,11 @@ module _ {A : Type 0} {P : A → Type 0} where
   all-less here (cons p a) = a
   all-less (there k) (cons p a) = cons p (all-less k a)
 
+-- what holds of each member holds of all
+pub all_from : {A : Type 0} {P : A → Type 0} (l : List A) → ((v : A) → Memᴰ v l → P v) → All P l
+all_from [] f = nil
+all_from (x ∷ l) f = cons (f x (Memᴰ.head refl)) (all_from l (λ v m. f v (Memᴰ.tail m)))
+
 pub all_map : {A : Type 0} {P Q : A → Type 0} → ((x : A) → P x → Q x) → {l : List A} → All P l → All Q l
 all_map f nil = nil
 all_map f (cons {x} p a) = cons (f x p) (all_map f a)
@@ -72,6 +78,35 @@ module _ {A : Type 0} {w : A} where
   pub more-mid : (us ws : List A) → More w (us ++ ws) (us ++ w ∷ ws)
   more-mid [] ws = here
   more-mid (u ∷ us) ws = there (more-mid us ws)
+
+  pub more-length : {l m : List A} → More w l m → length m ≡ suc (length l)
+  more-length here = refl
+  more-length (there k) = ap suc (more-length k)
+
+-- one list is the other in some order
+pub data Reordered {A : Type 0} : List A → List A → Type 0 where
+  empty : Reordered [] []
+  also : {x : A} {l m n : List A} → Reordered l m → More x m n → Reordered (x ∷ l) n
+
+module _ {A : Type 0} where
+  pub all-reordered : {P : A → Type 0} {l m : List A} → Reordered l m → All P l → All P m
+  all-reordered empty nil = nil
+  all-reordered (also r k) (cons p a) = all_more k p (all-reordered r a)
+
+  pub reordered-length : {l m : List A} → Reordered l m → length m ≡ length l
+  reordered-length empty = refl
+  reordered-length (also r k) = more-length k ∙ ap suc (reordered-length r)
+
+  from-reordered : {v : A} {l m : List A} → Reordered l m → Memᴰ v m → Memᴰ v l
+  from-reordered {v} {l} r = all-at (all-reordered r (all_from l (λ w d. d)))
+
+  to-reordered : {v : A} {l m : List A} → Reordered l m → Memᴰ v l → Memᴰ v m
+  to-reordered empty d = absurd (Memᴰ.not-nil d)
+  to-reordered (also r k) (Memᴰ.head e) = Memᴰ.cast e (more-in k)
+  to-reordered (also r k) (Memᴰ.tail d) = more-still k (to-reordered r d)
+
+  pub reordered-members : {l m : List A} → Reordered l m → (v : A) → Memᴰ v l ↔ Memᴰ v m
+  reordered-members r v = (to-reordered r, from-reordered r)
 
 -- what was put in, and what is cut out, is the one more
 pub more-put : {A : Type 0} (k : ℕ) (w : A) (o : List A) → More w o (put k w o)

@@ -23,7 +23,7 @@ pub linked-sym : {net : ℕ} {film : List Rec} {x y x' y' : ℕ} → Linked net 
 linked-sym (on_one r d n o o') = on_one r d n o' o
 linked-sym (by_way v w a b) = by_way v w (linked-sym b) (linked-sym a)
 
-linked-in : {net : ℕ} {film more : List Rec} → ((r : Rec) → Memᴰ r film → Memᴰ r more) → {x y x' y' : ℕ} → Linked net film x y x' y' → Linked net more x y x' y'
+pub linked-in : {net : ℕ} {film more : List Rec} → ((r : Rec) → Memᴰ r film → Memᴰ r more) → {x y x' y' : ℕ} → Linked net film x y x' y' → Linked net more x y x' y'
 linked-in f (on_one r d n o o') = on_one r (f r d) n o o'
 linked-in f (by_way v w a b) = by_way v w (linked-in f a) (linked-in f b)
 

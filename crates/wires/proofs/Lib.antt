@@ -13,3 +13,13 @@ pub mod Stretches
 pub mod Verticals
 pub mod ByRule
 pub mod Few
+pub mod RecordOrder
+pub mod Sorted
+pub mod Ranks
+pub mod Strokes
+pub mod Ties
+pub mod Counts
+pub mod Slots
+pub mod FirstSlots
+pub mod LaidAlike
+pub mod FilmOrder

@@ -1,0 +1,4 @@
+pub mod FilmBytes
+pub mod NetArrays
+pub mod Stamping
+pub mod Tracks

@@ -1,0 +1,12 @@
+-- `slots::levels::height` meets its contract: `field_is` over the seven levels. Assumes nothing.
+use Rattle.slots.proofs.Tracks.{field-sums, field-small, field_is, field-low}
+use Rattle.slots.proofs.levels.height.Goals as goal
+
+pub overflow_add-result : goal.overflow_add-result
+overflow_add-result c = field-sums c.args.level c.requires
+
+pub overflow_cast-result : goal.overflow_cast-result
+overflow_cast-result c = field-small c.args.level c.requires
+
+pub returns : goal.returns
+returns c = (field_is c.args.level c.requires, field-low c.args.level c.requires)
