@@ -14,7 +14,7 @@ use lib.Dec.{eqb, eqb-suc-suc}
 use borrow.Author.Tests.{eqb-true, eqb-false}
 use Rattle.rules.specs.Basic.{put, cut, keep, and_then}
 use Rattle.rules.specs.Row.{before, lone, Kind, B, M, E, N, Node, node, nodes}
-use Rattle.rules.specs.Street.{fits, last, limits_at, fits_at, counted, stands, next, kind, step as streetStep, run, Placing, Earlier, IsFirst, Passes, StopsAt}
+use Rattle.rules.specs.Street.{fits, last, limits_at, fits_at, counted, stands, next, kind, step as street_step, run, Placing, Earlier, IsFirst, Passes, StopsAt}
 use Rattle.rules.specs.Sheet.{code, kind_in}
 use Rattle.rules.specs.Judgement.{left}
 use Rattle.rules.proofs.Lists.{length_cut}
@@ -33,7 +33,7 @@ module _ (ku kl : ℕ) where
   -- a step of the street rules at the order of a rank is a hop
   abbrev Agree : Node → List ℕ → (r p : ℕ) → Type 0
   Agree n o r p =
-      streetStep ku kl n (order_of o r) (suc p)
+      street_step ku kl n (order_of o r) (suc p)
       ≡ Option.map (order_of (young n o)) (hop_of ku kl (step (code (kind n)) (age n o) (length o)) r p)
 
   kept : {A C : Type 0} (f : A → C) (t t' : Bool) (a : A) (c : C) → t ≡ t' → (t ≡ true → c ≡ f a) → keep t c ≡ Option.map f (keep t' a)
@@ -42,7 +42,7 @@ module _ (ku kl : ℕ) where
   kept f false t' a c e h = rw (← e)
 
   begin-agrees : (x : ℕ) (o : List ℕ) (r p : ℕ) → r < fact (length o) → Agree (node B x) o r p
-  unfolding streetStep stands next kind counted fits fits_at last limits_at young age code hop_of
+  unfolding street_step stands next kind counted fits fits_at last limits_at young age code hop_of
   begin-agrees x o r p h =
       kept (order_of (x ∷ o)) (fits ku kl (suc p) (suc (length (order_of o r)))) (fits ku kl (suc p) (suc (length o))) (p * fact (length o) + r)
       (put (suc p - 1) x (order_of o r)) (ap (λ b. fits ku kl (suc p) (suc b)) (order-length o r))
@@ -63,13 +63,13 @@ module _ (ku kl : ℕ) where
       (eqb-suc-suc p (before x (order_of o r)) ∙ ap (eqb p) (stands_at x o r h d f)) (order-length o r)
 
   meet-agrees : (x : ℕ) (o : List ℕ) (r p : ℕ) → before x o < length o → Distinct o → r < fact (length o) → Agree (node M x) o r p
-  unfolding streetStep stands next kind counted fits fits_at last limits_at young age code hop_of
+  unfolding street_step stands next kind counted fits fits_at last limits_at young age code hop_of
   meet-agrees x o r p h d f =
       kept (order_of o) (eqb (suc p) (suc (before x (order_of o r))) && fits ku kl (suc p) (length (order_of o r)))
       (eqb p (at_of (before x o) (length o) r) && fits ku kl (suc p) (length o)) r (order_of o r) (touch x o r p h d f) (λ t. refl)
 
   end-agrees : (x : ℕ) (o : List ℕ) (r p : ℕ) → before x o < length o → Distinct o → r < fact (length o) → Agree (node E x) o r p
-  unfolding streetStep stands next kind counted fits fits_at last limits_at young age code hop_of
+  unfolding street_step stands next kind counted fits fits_at last limits_at young age code hop_of
   end-agrees x o r p h d f =
       kept (order_of (cut (before x o) o)) (eqb (suc p) (suc (before x (order_of o r))) && fits ku kl (suc p) (length (order_of o r)))
       (eqb p (at_of (before x o) (length o) r) && fits ku kl (suc p) (length o)) (less_of (before x o) (length o) r) (cut (suc p - 1) (order_of o r))
@@ -88,7 +88,7 @@ module _ (ku kl : ℕ) where
           ap (λ i. cut i (order_of o r)) k ∙ sym (order-less o (before x o) r h f)
 
   rest-agrees : (x : ℕ) (o : List ℕ) (r p : ℕ) → Agree (node N x) o r p
-  unfolding streetStep stands next kind counted young age code hop_of
+  unfolding street_step stands next kind counted young age code hop_of
   rest-agrees x o r p =
       kept (order_of o) (fits_at N ku kl (suc p) (length (order_of o r))) (fits_at N ku kl (suc p) (length o)) r (order_of o r)
       (ap (fits_at N ku kl (suc p)) (order-length o r)) (λ t. refl)
@@ -187,8 +187,8 @@ module _ (ku kl : ℕ) (hu : ku ≤ 3) (hl : kl ≤ 3) where
   length-young (node N x) o t = refl
 
   -- a B that finds six nets open gets past no order
-  full-none : (x : ℕ) (o : List ℕ) (r p : ℕ) → length o ≡ 6 → streetStep ku kl (node B x) (order_of o r) (suc p) ≡ none
-  unfolding streetStep stands kind counted fits fits_at last limits_at keep
+  full-none : (x : ℕ) (o : List ℕ) (r p : ℕ) → length o ≡ 6 → street_step ku kl (node B x) (order_of o r) (suc p) ≡ none
+  unfolding street_step stands kind counted fits fits_at last limits_at keep
   full-none x o r p e = go (fits ku kl (suc p) (suc (length (order_of o r)))) refl
     where
       go : (t : Bool) → fits ku kl (suc p) (suc (length (order_of o r))) ≡ t → keep t (next (node B x) (order_of o r) (suc p)) ≡ none

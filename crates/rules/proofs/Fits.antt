@@ -156,9 +156,9 @@ module _ (ku kl p b : ℕ) where
       go true false m el eh em t = absurd t
       go false h m el eh em t = absurd t
 
-  pub →fitsAt : (k : Kind) → FitsAt k ku kl p b → T (fits_at k ku kl p b)
+  pub →fits_at : (k : Kind) → FitsAt k ku kl p b → T (fits_at k ku kl p b)
   unfolding fits_at met
-  →fitsAt k f = rw (le-leb 1 p f.low, le-leb p (last k b) f.high, at-met k f) tt
+  →fits_at k f = rw (le-leb 1 p f.low, le-leb p (last k b) f.high, at-met k f) tt
 
 -- at a node with a wire of its own these are the limits of a wire
 abbrev pub Wired : Kind → Type 0

@@ -10,7 +10,7 @@ use native.Mathlib.Omega.{arith}
 use Rattle.rules.specs.Basic.{keep, and_then}
 use Rattle.rules.specs.Row.{Node}
 use Rattle.rules.specs.Street.{step, run, stands, fits_at, counted, kind, next}
-use Rattle.rules.proofs.Fits.{FitsAt, fits_at→, →fitsAt}
+use Rattle.rules.proofs.Fits.{FitsAt, fits_at→, →fits_at}
 
 -- there is an order, and it is fine
 abbrev pub Ends : (List ℕ → Bool) → Option (List ℕ) → Type 0
@@ -60,7 +60,7 @@ module _ (fine : List ℕ → Bool) (ku kl : ℕ) (n : Node) (ns : List Node) (o
   pub onward-leads : Onward fine ku kl n ns o p ps → Leads fine ku kl (n ∷ ns) o (p ∷ ps)
   unfolding run step keep and_then
   onward-leads g =
-      rw (test-true (stands n o p) g.stood, test-true fit (→fitsAt ku kl p (counted (kind n) (length o)) (kind n) g.fitted)) g.rest
+      rw (test-true (stands n o p) g.stood, test-true fit (→fits_at ku kl p (counted (kind n) (length o)) (kind n) g.fitted)) g.rest
 
 module _ (ku kl : ℕ) where
   pub runs-rest : (n : Node) (ns : List Node) (o : List ℕ) (p : ℕ) (ps : List ℕ) →

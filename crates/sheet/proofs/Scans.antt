@@ -16,7 +16,7 @@ use Rattle.rules.specs.Row.{Kind, E}
 use Rattle.rules.specs.Street.{last, counted, fits_at}
 use Rattle.rules.specs.Sheet.{kind_in, Entry, entry, upper_of, lower_of, count_of, entries_of}
 use Rattle.rules.specs.Judgement.{fault_at, left, scan, left_open, middle}
-use Rattle.rules.proofs.Fits.{FitsAt, fits_at→, →fitsAt}
+use Rattle.rules.proofs.Fits.{FitsAt, fits_at→, →fits_at}
 use Rattle.rules.proofs.Legal.{left_le, clear-fits, fits-clear}
 use Rattle.street.specs.Places.{marked, Places}
 use Rattle.rules.specs.declared.Fault.{Fault}
@@ -84,7 +84,7 @@ module _ {ku kl : ℕ} {l : List ℕ} (p : Places ku kl l) {x b : ℕ} (low : x 
   legal-fits e = fits_at→ ku kl (suc (x % 16)) (counted (kind_in (x / 16)) b) (kind_in (x / 16)) (rw (sym same ∙ e) tt)
 
   pub illegal-never : t ≡ false → FitsAt (kind_in (x / 16)) ku kl (suc (x % 16)) (counted (kind_in (x / 16)) b) → ⊥
-  illegal-never e f = rw (sym same ∙ e) at (→fitsAt ku kl (suc (x % 16)) (counted (kind_in (x / 16)) b) (kind_in (x / 16)) f)
+  illegal-never e f = rw (sym same ∙ e) at (→fits_at ku kl (suc (x % 16)) (counted (kind_in (x / 16)) b) (kind_in (x / 16)) f)
 
 -- ---- the nets open after a node, counted without a branch
 

@@ -11,7 +11,7 @@ use Rattle.rules.specs.Row.{N}
 use Rattle.rules.specs.Street.{fits, last, fits_at}
 use Rattle.rules.specs.Sheet.{kind_in}
 use Rattle.rules.specs.Judgement.{left}
-use Rattle.rules.proofs.Fits.{Fits, fits→, →fits, FitsAt, fits_at→, →fitsAt}
+use Rattle.rules.proofs.Fits.{Fits, fits→, →fits, FitsAt, fits_at→, →fits_at}
 use Rattle.steps.specs.Plan.{step}
 use Rattle.steps.specs.Ranks.{capacity, fact, at_of, less_of, hop_of}
 use Rattle.steps.specs.Sets.{ranks, held}
@@ -101,7 +101,7 @@ unfolding hop_of keep
 hop-rests ku kl zero a b r p h f = absurd (omega arith)
 hop-rests ku kl (suc zero) a b r p h f = absurd (omega arith)
 hop-rests ku kl (suc (suc zero)) a b r p h f = absurd (omega arith)
-hop-rests ku kl (suc (suc (suc k))) a b r p h f = rw (to-true (fits_at N ku kl (suc p) b) (→fitsAt ku kl (suc p) b N f))
+hop-rests ku kl (suc (suc (suc k))) a b r p h f = rw (to-true (fits_at N ku kl (suc p) b) (→fits_at ku kl (suc p) b N f))
 
 pub hop-rested : (ku kl k a b r p x : ℕ) → 2 < k → hop_of ku kl (step k a b) r p ≡ some x → FitsAt N ku kl (suc p) b
 unfolding hop_of

@@ -9,7 +9,7 @@ use lib.Pow.{pow_pos}
 use borrow.Author.Tests.{eq-eqb, le-ltb, lt-ltb, le-leb, leb-true, ltb-true}
 use Rattle.rules.specs.Row.{Kind, N}
 use Rattle.rules.specs.Street.{fits_at, last}
-use Rattle.rules.proofs.Fits.{FitsAt, fits_at→, →fitsAt, Wired, wired-fits, fits-wired}
+use Rattle.rules.proofs.Fits.{FitsAt, fits_at→, →fits_at, Wired, wired-fits, fits-wired}
 use Rattle.street.specs.Places.{marked, among}
 
 -- ---- bits
@@ -78,7 +78,7 @@ module _ (ku kl a b : ℕ) where
   among-fits k n f g =
       marked-between (b - kl) (suc (min b ku)) a
       ∙ same_test (leb (b - kl) a && ltb a (suc (min b ku))) (fits_at k ku kl (suc a) n)
-      (λ t. let h = tests-between (b - kl) (suc (min b ku)) a t in →fitsAt ku kl (suc a) n k (f h.0 h.1))
+      (λ t. let h = tests-between (b - kl) (suc (min b ku)) a t in →fits_at ku kl (suc a) n k (f h.0 h.1))
       (λ t. let h = g (fits_at→ ku kl (suc a) n k t) in between-tests (b - kl) (suc (min b ku)) a h.0 h.1)
 
   -- they are the places of a blank among b wires
