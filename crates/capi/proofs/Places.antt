@@ -7,13 +7,16 @@ use Prim.Native.Nat.{ℕ, suc, ◌+◌, ◌*◌, ◌≤◌, ◌<◌}
 use native.Mathlib.Omega.{arith}
 use lib.ListN.{length, take}
 use lib.Dec.{leb, ltb}
-use Rattle.rules.specs.declared.Limits.{Limits}
-use Rattle.rules.specs.declared.Limits.TheVariants.{Met, Upper, Lower, Sum}
+use Rattle.std.specs.declared.option.Option.TheVariants.{None, Some}
+use Rattle.std.specs.declared.result.Result.TheVariants.{Ok, Err}
+use Rattle.rules.specs.declared.DrawError.{DrawError}
+use Rattle.rules.specs.declared.ReadError.{ReadError}
+use Rattle.rules.specs.declared.RouteError.{RouteError}
+use Rattle.rules.specs.Limits.{Broken}
+use Rattle.rules.specs.declared.Limit.TheVariants.{Upper, Lower, Sum}
 use Rattle.rules.specs.declared.Fault.{Fault}
 use Rattle.rules.specs.declared.Fault.TheVariants.{Head, Tracks, Length, Position, Open, Padding, Nets}
-use Rattle.rules.specs.declared.Routing.{Routing}
-use Rattle.rules.specs.declared.Reading.{Reading}
-use Rattle.rules.specs.declared.Drawing.{Drawing}
+use Rattle.rules.specs.Answers.{unread}
 use Rattle.rules.specs.Basic.{keep, or_else, settle, is_none}
 use Rattle.rules.specs.Row.{lone, nodes}
 use Rattle.rules.specs.Street.{last, limits_at, counted, way, first, failing}
@@ -49,12 +52,12 @@ module _ {A : Type 0} (said : A → Said) where
   settle-place (some b) a h g = h
 
 -- a fault's place is 0 or a node's number
-broken-place : (l : Limits) (i : ℕ) → place_of fault_said (broken l i) ≤ i
+broken-place : (l : Broken) (i : ℕ) → place_of fault_said (broken l i) ≤ i
 unfolding place_of broken fault_said
-broken-place Met i = omega arith
-broken-place Upper i = omega arith
-broken-place Lower i = omega arith
-broken-place Sum i = omega arith
+broken-place None i = omega arith
+broken-place (Some Upper) i = omega arith
+broken-place (Some Lower) i = omega arith
+broken-place (Some Sum) i = omega arith
 
 fault-place : (ku kl i b : ℕ) (e : Entry) → place_of fault_said (fault_at ku kl i b e) ≤ i
 unfolding fault_at fault_said
@@ -104,7 +107,7 @@ unfolding judge
 judge-place s =
     or-place fault_said (head s) _ (head-place s) (or-place fault_said (middle s) (tail s) (middle-place s) (tail-place s))
 
-unfit-read : (x : Option Fault) → place_of read_said (map Reading.Unfit x) ≡ place_of fault_said x
+unfit-read : (x : Option Fault) → place_of read_said (map unread x) ≡ place_of fault_said x
 unfolding place_of read_said
 unfit-read none = refl
 unfit-read (some f) = refl
@@ -113,9 +116,9 @@ pub read-place : (s row : List ℕ) → (read_said (reading s row)).place < plac
 unfolding reading read_said
 read-place s row =
     let p : (read_said (reading s row)).place ≤ 1024 =
-    settle-place read_said _ (Reading.Row (count_of s))
-    (or-place read_said (map Reading.Unfit (head s)) _ (omega (arith, unfit-read (head s), head-place s))
-    (or-place read_said (keep (room s row) Reading.RowShort) _ (keep-place read_said (room s row) Reading.RowShort (omega arith))
+    settle-place read_said _ (Ok (count_of s))
+    (or-place read_said (map unread (head s)) _ (omega (arith, unfit-read (head s), head-place s))
+    (or-place read_said (keep (room s row) (Err ReadError.RowShort)) _ (keep-place read_said (room s row) (Err ReadError.RowShort) (omega arith))
     (omega (arith, unfit-read (or_else (middle s) (or_else (tail s) (crowded s))), rest-place s))))
     (omega (arith, few s)) in
     omega (arith, p)
@@ -127,9 +130,9 @@ draw-place s film = go (judge s) refl
     go : (j : Option Fault) → judge s ≡ j → (draw_said (drawing s film)).place < places
     go none e =
         let k = length (records 16 s) in
-        let p : (draw_said (settle (keep (ltb (length film) (5 * k)) Drawing.FilmShort) (Drawing.Film k))).place ≤ 14 * 1023 =
-        settle-place draw_said (keep (ltb (length film) (5 * k)) Drawing.FilmShort) (Drawing.Film k)
-        (keep-place draw_said (ltb (length film) (5 * k)) Drawing.FilmShort (omega arith))
+        let p : (draw_said (settle (keep (ltb (length film) (5 * k)) (Err DrawError.FilmShort)) (Ok k))).place ≤ 14 * 1023 =
+        settle-place draw_said (keep (ltb (length film) (5 * k)) (Err DrawError.FilmShort)) (Ok k)
+        (keep-place draw_said (ltb (length film) (5 * k)) (Err DrawError.FilmShort) (omega arith))
         (omega (arith, few s, records-few s e)) in
         rw e (omega (arith, p))
     go (some f) e = let p : (fault_said f).place ≤ 1024 = rw e at (judge-place s) in rw e (omega (arith, p))
@@ -157,12 +160,12 @@ route-place row ku kl work out = go (wrong_count (length row)) refl
         let late = outcome ku kl (nodes row) (first ku kl (nodes row)) in
         let p : (route_said (routing row ku kl work out)).place ≤ 513 =
         settle-place route_said _ late
-        (or-place route_said (keep (wrong_count n) Routing.RowLength) _ (keep-place route_said (wrong_count n) Routing.RowLength (omega arith))
-        (or-place route_said (keep (not (takes ku kl)) Routing.Tracks) _ (keep-place route_said (not (takes ku kl)) Routing.Tracks (omega arith))
-        (or-place route_said (keep (ltb i n) (Routing.Lone (suc i))) _
-        (keep-place route_said (ltb i n) (Routing.Lone (suc i)) (omega (arith, h.1, least-le (lone row) n)))
-        (or-place route_said (keep (ltb (length work) (90 * n)) Routing.WorkShort) _
-        (keep-place route_said (ltb (length work) (90 * n)) Routing.WorkShort (omega arith))
-        (keep-place route_said (ltb (length out) (size n)) Routing.SheetShort (omega arith))))))
+        (or-place route_said (keep (wrong_count n) (Err RouteError.RowLength)) _ (keep-place route_said (wrong_count n) (Err RouteError.RowLength) (omega arith))
+        (or-place route_said (keep (not (takes ku kl)) (Err RouteError.Tracks)) _ (keep-place route_said (not (takes ku kl)) (Err RouteError.Tracks) (omega arith))
+        (or-place route_said (keep (ltb i n) (Err (RouteError.Lone (suc i)))) _
+        (keep-place route_said (ltb i n) (Err (RouteError.Lone (suc i))) (omega (arith, h.1, least-le (lone row) n)))
+        (or-place route_said (keep (ltb (length work) (90 * n)) (Err RouteError.WorkShort)) _
+        (keep-place route_said (ltb (length work) (90 * n)) (Err RouteError.WorkShort) (omega arith))
+        (keep-place route_said (ltb (length out) (size n)) (Err RouteError.SheetShort) (omega arith))))))
         (omega (arith, h.1, outcome-place ku kl row (first ku kl (nodes row)))) in
         omega (arith, p)

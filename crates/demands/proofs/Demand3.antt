@@ -9,8 +9,9 @@ use native.Mathlib.Omega.{arith}
 use lib.ListN.{length, take, drop}
 use lib.Seq.{take-append_seam}
 use lib.Dec.{ltb}
-use Rattle.rules.specs.declared.Routing.{Routing}
-use Rattle.rules.specs.declared.Routing.TheVariants.{Sheet, Stuck, RowLength, Tracks, Lone, WorkShort, SheetShort}
+use Rattle.std.specs.declared.result.Result.TheVariants.{Ok, Err}
+use Rattle.rules.specs.Answers.{Routing}
+use Rattle.rules.specs.declared.RouteError.TheVariants.{Stuck, RowLength, Tracks, Lone, WorkShort, SheetShort}
 use Rattle.rules.specs.Basic.{keep, or_else, settle}
 use Rattle.rules.specs.Row.{nodes}
 use Rattle.rules.specs.Street.{Placing, IsFirst, first}
@@ -25,7 +26,7 @@ use Rattle.router.proofs.Demand.{sheet-when-placed, six-when-stuck, first-placin
 use Rattle.demands.specs.Demands.{Checked, RouterCall, sheet_of, Demand3}
 
 -- no check gives a sheet, so a row that gets one has passed them
-sheet-checked : (row : List ℕ) (ku kl : ℕ) (work out : List ℕ) (n : ℕ) → routing row ku kl work out ≡ Sheet n → Checked row ku kl work out
+sheet-checked : (row : List ℕ) (ku kl : ℕ) (work out : List ℕ) (n : ℕ) → routing row ku kl work out ≡ Ok n → Checked row ku kl work out
 unfolding routing refusal or_else keep settle
 sheet-checked row ku kl work out n =
     go (wrong_count (length row)) (not (takes ku kl)) (ltb (first_lone row) (length row)) (ltb (length work) (90 * length row))
@@ -36,10 +37,10 @@ sheet-checked row ku kl work out n =
 
     checks : (a b c d e : Bool) → Option Routing
     checks a b c d e =
-        or_else (keep a RowLength)
-        (or_else (keep b Tracks) (or_else (keep c (Lone (suc (first_lone row)))) (or_else (keep d WorkShort) (keep e SheetShort))))
+        or_else (keep a (Err RowLength))
+        (or_else (keep b (Err Tracks)) (or_else (keep c (Err (Lone (suc (first_lone row))))) (or_else (keep d (Err WorkShort)) (keep e (Err SheetShort)))))
 
-    go : (a b c d e : Bool) → settle (checks a b c d e) late ≡ Sheet n → checks a b c d e ≡ none
+    go : (a b c d e : Bool) → settle (checks a b c d e) late ≡ Ok n → checks a b c d e ≡ none
     go true b c d e h = let z : ◌≡◌ {A = ℕ} 0 1 = cc in absurd (omega arith)
     go false true c d e h = let z : ◌≡◌ {A = ℕ} 0 1 = cc in absurd (omega arith)
     go false false true d e h = let z : ◌≡◌ {A = ℕ} 0 1 = cc in absurd (omega arith)
@@ -51,19 +52,19 @@ module _ {row : List ℕ} {ku kl : ℕ} (c : RouterCall row ku kl) where
   abbrev reason : Checked row ku kl c.work c.out → Type 0
   reason checked = Answered row ku kl c.work c.out checked
 
-  six : Checked row ku kl c.work c.out → ((i : ℕ) × (c.answer ≡ Stuck i)) ↔ ((ps : List ℕ) → Placing ku kl (nodes row) ps → ⊥)
+  six : Checked row ku kl c.work c.out → ((i : ℕ) × (c.answer ≡ Err (Stuck i))) ↔ ((ps : List ℕ) → Placing ku kl (nodes row) ps → ⊥)
   six checked = (to (answered row ku kl c.work c.out checked), from (answered row ku kl c.work c.out checked))
     where
-      to : reason checked → (i : ℕ) × (c.answer ≡ Stuck i) → (ps : List ℕ) → Placing ku kl (nodes row) ps → ⊥
+      to : reason checked → (i : ℕ) × (c.answer ≡ Err (Stuck i)) → (ps : List ℕ) → Placing ku kl (nodes row) ps → ⊥
       to (placed ps f a s) x = let e = sym x.1 ∙ c.meets.answer ∙ a in let z : ◌≡◌ {A = ℕ} 0 1 = cc in absurd (omega arith)
       to (stuck i n s a) x = n
 
-      from : reason checked → ((ps : List ℕ) → Placing ku kl (nodes row) ps → ⊥) → (i : ℕ) × (c.answer ≡ Stuck i)
+      from : reason checked → ((ps : List ℕ) → Placing ku kl (nodes row) ps → ⊥) → (i : ℕ) × (c.answer ≡ Err (Stuck i))
       from (placed ps f a s) n = absurd (n ps f.placing)
       from (stuck i n s a) _ = (i, c.meets.answer ∙ a)
 
-  module _ (got : c.answer ≡ Sheet (length row)) where
-    gets : routing row ku kl c.work c.out ≡ Sheet (length row)
+  module _ (got : c.answer ≡ Ok (length row)) where
+    gets : routing row ku kl c.work c.out ≡ Ok (length row)
     gets = sym c.meets.answer ∙ got
 
     pub passed : Checked row ku kl c.work c.out

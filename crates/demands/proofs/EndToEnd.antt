@@ -9,9 +9,7 @@ use native.Mathlib.Omega.{arith}
 use lib.ListN.{length, get_or, take, length-map}
 use lib.Dec.{ltb}
 use borrow.Author.Tests.{le-ltb}
-use Rattle.rules.specs.declared.Routing.TheVariants.{Sheet}
-use Rattle.rules.specs.declared.Reading.TheVariants.{Row}
-use Rattle.rules.specs.declared.Drawing.TheVariants.{Film}
+use Rattle.std.specs.declared.result.Result.TheVariants.{Ok}
 use Rattle.rules.specs.Basic.{keep, or_else, settle}
 use Rattle.rules.specs.Row.{blank, joined, SamePins}
 use Rattle.rules.specs.Sheet.{count_of, pins_of, label, row_of}
@@ -58,7 +56,7 @@ module _ {pitch ku kl : ℕ} {pins : List (Option ℕ)} {rs : List Rec} (rules :
       omega arith
 
 -- a row that the router took
-module _ {row : List ℕ} {ku kl : ℕ} (c : RouterCall row ku kl) (got : c.answer ≡ Sheet (length row)) where
+module _ {row : List ℕ} {ku kl : ℕ} (c : RouterCall row ku kl) (got : c.answer ≡ Ok (length row)) where
   back : (readable (sheet_of c) ≡ none) × SamePins row (row_of (sheet_of c))
   back =
       subst (λ s. (readable s ≡ none) × SamePins row (row_of s)) (sym (sheet-stands c got))
@@ -70,10 +68,10 @@ module _ {row : List ℕ} {ku kl : ℕ} (c : RouterCall row ku kl) (got : c.answ
   count : count_of (sheet_of c) ≡ length row
   count = sym (length-row (sheet_of c)) ∙ sym back.1.count
 
-  read_back : (d : ReaderCall (sheet_of c)) → length row ≤ length d.row → (d.answer ≡ Row (length row)) × SamePins row (take (length row) d.row')
+  read_back : (d : ReaderCall (sheet_of c)) → length row ≤ length d.row → (d.answer ≡ Ok (length row)) × SamePins row (take (length row) d.row')
   read_back d h =
-      let e : d.answer ≡ Row (length row) =
-      d.meets.answer ∙ (read-passes (sheet_of c) d.row).1 (back.0, omega (arith, count, h)) ∙ ap Row count in
+      let e : d.answer ≡ Ok (length row) =
+      d.meets.answer ∙ (read-passes (sheet_of c) d.row).1 (back.0, omega (arith, count, h)) ∙ ap Ok count in
       (e, subst (SamePins row) (sym (row_back d (length row) e)) back.1)
 
   agreed : agrees row (sheet_of c) ≡ true
@@ -85,16 +83,16 @@ module _ {row : List ℕ} {ku kl : ℕ} (c : RouterCall row ku kl) (got : c.answ
   unfolding row_of
   pinned = sym (length-map (pins_of (sheet_of c)) label) ∙ sym back.1.count
 
-  drawable : (d : DrawerCall (sheet_of c)) → 5 * (14 * length row) ≤ length d.film → (k : ℕ) × (d.answer ≡ Film k)
+  drawable : (d : DrawerCall (sheet_of c)) → 5 * (14 * length row) ≤ length d.film → (k : ℕ) × (d.answer ≡ Ok k)
   unfolding drawing or_else keep settle
   drawable d h =
       let s = sheet_of c in
       let k = length (records 16 s) in
       let t : ltb (length d.film) (5 * k) ≡ _ = le-ltb (length d.film) (5 * k) (omega (arith, records-few s judged, count, h)) in
-      let a : drawing s d.film ≡ Film k = rw (judged, t) in
+      let a : drawing s d.film ≡ Ok k = rw (judged, t) in
       (k, d.meets.answer ∙ a)
 
-  joins : (d : DrawerCall (sheet_of c)) (k : ℕ) → d.answer ≡ Film k
+  joins : (d : DrawerCall (sheet_of c)) (k : ℕ) → d.answer ≡ Ok k
       → (rs : List Rec)
       × (d.film' ≡ written (film_bytes rs) d.film)
       × ((i j : ℕ) → i < length row → j < length row → joined row i j ≡ true ↔ ((net : ℕ) × Linked net rs (16 * i) axis (16 * j) axis))
@@ -112,10 +110,10 @@ module _ {row : List ℕ} {ku kl : ℕ} (c : RouterCall row ku kl) (got : c.answ
             ((given-blank (sheet_of c) back.0 i (omega (arith, back.1.count, h))).0 (sym (back.1.blanks i h) ∙ b)),
       )
 
-filmed : {s : List ℕ} (c : DrawerCall s) (k : ℕ) → c.answer ≡ Film k → Filmed (records 16 s) c.film c.film'
+filmed : {s : List ℕ} (c : DrawerCall s) (k : ℕ) → c.answer ≡ Ok k → Filmed (records 16 s) c.film c.film'
 unfolding FilmAfter
 filmed {s} c k e =
-    let a : FilmAfter (Film k) s c.film c.film' = subst (λ r. FilmAfter r s c.film c.film') e c.meets.bytes in
+    let a : FilmAfter (Ok k) s c.film c.film' = subst (λ r. FilmAfter r s c.film c.film') e c.meets.bytes in
     record { order = a.0; same = a.1; bytes = a.2 }
 
 pub end_to_end : EndToEnd

@@ -14,9 +14,11 @@ use lib.ListN.{length, get_or, take, replicate, length-append, length-replicate,
 use lib.Seq.{get_or-append-add, take-append-le}
 use lib.Dec.{eqb}
 use borrow.Author.Tests.{ne_eqb, eq-eqb, le-ltb}
-use Rattle.rules.specs.declared.Routing.TheVariants.{RowLength, Tracks, Lone, WorkShort, SheetShort}
+use Rattle.std.specs.declared.result.Result.TheVariants.{Err}
+use Rattle.rules.specs.declared.RouteError.TheVariants.{RowLength, Tracks, Lone, WorkShort, SheetShort}
 use Rattle.rules.specs.Basic.{pick, tabulate, least, put, keep, and_then}
-use Rattle.rules.specs.Row.{before, blank, home, later, B, M, Node, node, kind_of, node_at, nodes, lone}
+use Rattle.rules.specs.declared.Kind.TheVariants.{B, M}
+use Rattle.rules.specs.Row.{before, blank, home, later, Node, node, kind_of, node_at, nodes, lone}
 use Rattle.rules.specs.Street.{Placing, Passes, limits, met, last, limits_at, fits_at, counted, stands, next, kind, step, run}
 use Rattle.rules.specs.Sheet.{size}
 use Rattle.rules.specs.Bits.{Below, nil, cons}
@@ -231,11 +233,11 @@ module _ (k : ℕ) where
     checked =
         let n = length filled in
         let i = least (lone filled) n in
-        none-or_else (none-keep RowLength (within_count n (omega (arith, filled-length)) (omega (arith, filled-length))))
-        (none-or_else (none-keep Tracks (ap not (le-takes 1 0 (omega arith) (omega arith))))
-        (none-or_else (none-keep (Lone (suc i)) (le-ltb i n none-lone))
-        (none-or_else (none-keep WorkShort (le-ltb _ (90 * n) (omega (arith, length-replicate {A = ℕ} (90 * n) 0))))
-        (none-keep SheetShort (le-ltb _ (size n) (omega (arith, length-replicate {A = ℕ} (size n) 0)))))))
+        none-or_else (none-keep (Err RowLength) (within_count n (omega (arith, filled-length)) (omega (arith, filled-length))))
+        (none-or_else (none-keep (Err Tracks) (ap not (le-takes 1 0 (omega arith) (omega arith))))
+        (none-or_else (none-keep (Err (Lone (suc i))) (le-ltb i n none-lone))
+        (none-or_else (none-keep (Err WorkShort) (le-ltb _ (90 * n) (omega (arith, length-replicate {A = ℕ} (90 * n) 0))))
+        (none-keep (Err SheetShort) (le-ltb _ (size n) (omega (arith, length-replicate {A = ℕ} (size n) 0)))))))
 
 pub not-the-first-nodes-alone : (k : ℕ) → k ≤ 508 → (f : Router) → MeetsRouter f → FirstNodesAlone k f → ⊥
 not-the-first-nodes-alone k short f meets a =

@@ -7,13 +7,16 @@ use native.Mathlib.Omega.{arith}
 use lib.ListN.{length, get_or, drop, replicate, length-append}
 use lib.Dec.{ltb}
 use borrow.Author.Tests.{le-ltb, ltb-true}
-use Rattle.rules.specs.declared.Routing.{Routing}
-use Rattle.rules.specs.declared.Routing.TheVariants.{Sheet, Stuck}
-use Rattle.rules.specs.declared.Reading.TheVariants.{Row}
-use Rattle.rules.specs.declared.Drawing.{Drawing}
-use Rattle.rules.specs.declared.Drawing.TheVariants.{Film, FilmShort}
+use Rattle.std.specs.declared.result.Result.TheVariants.{Ok, Err}
+use Rattle.rules.specs.declared.DrawError.{DrawError}
+use Rattle.rules.specs.Answers.{Routing}
+use Rattle.rules.specs.declared.RouteError.TheVariants.{Stuck}
+use Rattle.rules.specs.Answers.{Drawing}
+use Rattle.rules.specs.declared.DrawError.TheVariants.{FilmShort}
 use Rattle.rules.specs.Basic.{pick, tabulate, every, least, put, cut, keep, and_then, or_else, is_none, settle}
-use Rattle.rules.specs.Row.{Kind, B, M, E, N, before, has, blank, joined, home, later, kind_of, node_at, nodes, lone}
+use Rattle.rules.specs.declared.Kind.{Kind}
+use Rattle.rules.specs.declared.Kind.TheVariants.{B, M, E, N}
+use Rattle.rules.specs.Row.{before, has, blank, joined, home, later, kind_of, node_at, nodes, lone}
 use Rattle.rules.specs.Street.{limits, met, last, limits_at, fits_at, counted, stands, next, kind, step, first_from, also, way, empty, first, failing}
 use Rattle.rules.specs.Bits.{digits, val, pack, unpack, Below, nil, cons}
 use Rattle.rules.specs.Sheet.{takes, code, kind_in, Entry, entry, entries, entry_bits, size, padding, sheet_bits, sheet, upper_of, lower_of, count_of, entry_at, entries_of, padding_of, begun, begun_by, nets_of, net_at, nets, pins_of, label, row_of}
@@ -58,10 +61,10 @@ pub data SameFilms (film a b : List ℕ) : Type 0 where
 
 same-films : (s film : List ℕ) (r : Drawing) (a b : List ℕ) → FilmAfter r s film a → FilmAfter r s film b → SameFilms film a b
 unfolding FilmAfter
-same-films s film (Film k) a b x y =
+same-films s film (Ok k) a b x y =
     filled s (record { order = x.0; same = x.1; bytes = x.2 }) (record { order = y.0; same = y.1; bytes = y.2 })
-same-films s film FilmShort a b x y = untouched x y
-same-films s film (Drawing.Unfit e) a b x y = untouched x y
+same-films s film (Err FilmShort) a b x y = untouched x y
+same-films s film (Err (DrawError.Unfit e)) a b x y = untouched x y
 
 pub one-drawer : (f g : Drawer) → MeetsDrawer f → MeetsDrawer g → (s film : List ℕ) → Below 256 s → Below 256 film
     → (f.answer s film ≡ g.answer s film) × SameFilms film (f.film s film) (g.film s film)
@@ -92,15 +95,15 @@ abba = 0 ∷ 1 ∷ 1 ∷ 0 ∷ []
 -- S1 and the same row with a track below, S4, and S5
 record Known : Type 0 where
   s1 : Checked aa 1 0 (asked aa 1 0).work (asked aa 1 0).sheet
-  s1-sheet : routing aa 1 0 (asked aa 1 0).work (asked aa 1 0).sheet ≡ Sheet 2
+  s1-sheet : routing aa 1 0 (asked aa 1 0).work (asked aa 1 0).sheet ≡ Ok 2
   s1-bytes : first_sheet aa 1 0 ≡ 16 ∷ 2 ∷ 2 ∷ 0 ∷ []
   s1-below : Checked aa 1 1 (asked aa 1 1).work (asked aa 1 1).sheet
-  s1-below-sheet : routing aa 1 1 (asked aa 1 1).work (asked aa 1 1).sheet ≡ Sheet 2
+  s1-below-sheet : routing aa 1 1 (asked aa 1 1).work (asked aa 1 1).sheet ≡ Ok 2
   s1-below-bytes : first_sheet aa 1 1 ≡ 20 ∷ 2 ∷ 2 ∷ 0 ∷ []
   s4 : Checked abab 2 0 (asked abab 2 0).work (asked abab 2 0).sheet
-  s4-stuck : routing abab 2 0 (asked abab 2 0).work (asked abab 2 0).sheet ≡ Stuck 3
+  s4-stuck : routing abab 2 0 (asked abab 2 0).work (asked abab 2 0).sheet ≡ Err (Stuck 3)
   s5 : Checked abba 2 0 (asked abba 2 0).work (asked abba 2 0).sheet
-  s5-sheet : routing abba 2 0 (asked abba 2 0).work (asked abba 2 0).sheet ≡ Sheet 4
+  s5-sheet : routing abba 2 0 (asked abba 2 0).work (asked abba 2 0).sheet ≡ Ok 4
 
 known : Known
 unfolding pick tabulate least put cut keep and_then or_else is_none settle before has blank home later kind_of node_at nodes lone limits met last limits_at fits_at counted stands next kind step first_from also way empty first failing digits val pack unpack takes code entries entry_bits size padding sheet_bits sheet wrong_count first_lone refusal outcome routing first_sheet
@@ -140,24 +143,24 @@ s5-fair =
     fair-four abba
     (cons {x = 0} (omega arith) (cons {x = 1} (omega arith) (cons {x = 1} (omega arith) (cons {x = 0} (omega arith) nil)))) known.s5
 
-sheet-stuck : {n i : ℕ} → ◌≡◌ {A = Routing} (Sheet n) (Stuck i) → ⊥
+sheet-stuck : {n i : ℕ} → ◌≡◌ {A = Routing} (Ok n) (Err (Stuck i)) → ⊥
 sheet-stuck e = let z : ◌≡◌ {A = ℕ} 0 1 = cc in omega arith
 
 module _ (f : Router) (meets : MeetsRouter f) where
   answers : (l : Lent) (fair : Fair l) (r : Routing) → routing l.row l.ku l.kl l.work l.sheet ≡ r → f.answer l ≡ r
   answers l fair r e = (meets l fair.0).answer ∙ e
 
-  writes : (l : Lent) (fair : Fair l) (n : ℕ) (s : List ℕ) → f.answer l ≡ Sheet n → first_sheet l.row l.ku l.kl ≡ s
+  writes : (l : Lent) (fair : Fair l) (n : ℕ) (s : List ℕ) → f.answer l ≡ Ok n → first_sheet l.row l.ku l.kl ≡ s
       → f.sheet l ≡ written s l.sheet
   unfolding sheet_after
   writes l fair n s e g =
       (meets l fair.0).written ∙ ap (λ r. sheet_after r l.row l.ku l.kl l.sheet) e ∙ ap (λ x. written x l.sheet) g
 
-  s1-answer : f.answer (asked aa 1 0) ≡ Sheet 2
-  s1-answer = answers (asked aa 1 0) s1-fair (Sheet 2) known.s1-sheet
+  s1-answer : f.answer (asked aa 1 0) ≡ Ok 2
+  s1-answer = answers (asked aa 1 0) s1-fair (Ok 2) known.s1-sheet
 
-  s1-below-answer : f.answer (asked aa 1 1) ≡ Sheet 2
-  s1-below-answer = answers (asked aa 1 1) s1-below-fair (Sheet 2) known.s1-below-sheet
+  s1-below-answer : f.answer (asked aa 1 1) ≡ Ok 2
+  s1-below-answer = answers (asked aa 1 1) s1-below-fair (Ok 2) known.s1-below-sheet
 
   s1-written : get_or (f.sheet (asked aa 1 0)) 0 0 ≡ 16
   unfolding written size
@@ -173,9 +176,9 @@ module _ (f : Router) (meets : MeetsRouter f) where
   pub not-before-looking : BeforeLooking f → ⊥
   not-before-looking a =
       sheet-stuck
-      (sym (answers (asked abba 2 0) s5-fair (Sheet 4) known.s5-sheet)
+      (sym (answers (asked abba 2 0) s5-fair (Ok 4) known.s5-sheet)
       ∙ a (asked abba 2 0) (asked abab 2 0) s5-fair s4-fair refl refl refl
-      ∙ answers (asked abab 2 0) s4-fair (Stuck 3) known.s4-stuck)
+      ∙ answers (asked abab 2 0) s4-fair (Err (Stuck 3)) known.s4-stuck)
 
   pub not-a-fixed-sheet : FixedSheet f → ⊥
   unfolding size
@@ -199,8 +202,8 @@ s1-below-256 : Below 256 s1
 s1-below-256 = cons {x = 16} (omega arith) (cons {x = 2} (omega arith) (cons {x = 2} (omega arith) (cons {x = 0} (omega arith) nil)))
 
 record Seen : Type 0 where
-  row : reading s1 (0 ∷ 0 ∷ []) ≡ Row 2
-  film : drawing s1 (replicate 15 0) ≡ Film 3
+  row : reading s1 (0 ∷ 0 ∷ []) ≡ Ok 2
+  film : drawing s1 (replicate 15 0) ≡ Ok 3
   dark : total (replicate 15 0) ≡ 0
   bright : ltb 0 (total (film_bytes (records 16 s1))) ≡ true
   agreed : agrees aa s1 ≡ true
@@ -257,7 +260,7 @@ module _ (f : Drawer) (meets : MeetsDrawer f) where
   not-nothing-drawn a =
       let film : List ℕ = replicate 15 0 in
       let m = meets s1 film s1-below-256 (below-replicate 15 (omega arith)) in
-      let x : FilmAfter (Film 3) s1 film (f.film s1 film) =
+      let x : FilmAfter (Ok 3) s1 film (f.film s1 film) =
       subst (λ r. FilmAfter r s1 film (f.film s1 film)) (m.answer ∙ seen.film) m.bytes in
       let new = film_bytes x.0 in
       let t : total film ≡ total (new ++ drop (length new) film) = ap total (sym (a s1 film) ∙ x.2) in
@@ -268,7 +271,7 @@ module _ (f : Drawer) (meets : MeetsDrawer f) where
   not-hasty a =
       let m = meets a.s a.film a.bytes.0 a.bytes.1 in
       let k = length (records 16 a.s) in
-      let e : drawing a.s a.film ≡ Film k = rw (a.faultless, le-ltb (length a.film) (5 * k) a.room) in
+      let e : drawing a.s a.film ≡ Ok k = rw (a.faultless, le-ltb (length a.film) (5 * k) a.room) in
       let g = sym a.says ∙ m.answer ∙ e in
       let z : ◌≡◌ {A = ℕ} 0 1 = cc in
       omega arith

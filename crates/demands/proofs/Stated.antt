@@ -8,15 +8,22 @@ use Prim.Native.Nat.{ℕ, suc, ◌+◌, ◌-◌, ◌*◌, ◌≤◌}
 use native.Mathlib.Omega.{arith}
 use lib.ListN.{length}
 use lib.Dec.{leb, ltb}
-use Rattle.rules.specs.declared.Limits.{Limits}
-use Rattle.rules.specs.declared.Limits.TheVariants.{Met, Upper, Lower, Sum}
+use Rattle.std.specs.declared.option.Option.TheVariants.{None, Some}
+use Rattle.std.specs.declared.result.Result.TheVariants.{Ok, Err}
+use Rattle.rules.specs.declared.DrawError.{DrawError}
+use Rattle.rules.specs.declared.ReadError.{ReadError}
+use Rattle.rules.specs.declared.RouteError.{RouteError}
+use Rattle.rules.specs.Limits.{Broken}
+use Rattle.rules.specs.declared.Limit.TheVariants.{Upper, Lower, Sum}
 use Rattle.rules.specs.declared.Fault.{Fault}
 use Rattle.rules.specs.declared.Fault.TheVariants.{Head, Tracks, Length, Position, Open, Padding, Nets}
-use Rattle.rules.specs.declared.Routing.{Routing}
-use Rattle.rules.specs.declared.Reading.{Reading}
-use Rattle.rules.specs.declared.Drawing.{Drawing}
+use Rattle.rules.specs.Answers.{Routing, unread, undrawn}
+use Rattle.rules.specs.Answers.{Reading}
+use Rattle.rules.specs.Answers.{Drawing}
 use Rattle.rules.specs.Basic.{pick, keep, or_else, settle, is_none}
-use Rattle.rules.specs.Row.{Kind, B, M, E, N, nodes}
+use Rattle.rules.specs.declared.Kind.{Kind}
+use Rattle.rules.specs.declared.Kind.TheVariants.{B, M, E, N}
+use Rattle.rules.specs.Row.{nodes}
 use Rattle.rules.specs.Street.{limits, blank_limits, last, limits_at, counted, first, failing}
 use Rattle.rules.specs.Sheet.{takes, kind_in, size, Entry, entry, upper_of, lower_of, count_of, entries_of, nets_of, row_of}
 use Rattle.rules.specs.Film.{records}
@@ -58,7 +65,7 @@ module _ {A : Type 0} (said : A → Said) where
 module _ (cs : List Cause) (fine : Said) where
   -- the first limit that is broken, of three tests
   broken-said : (u l s : Bool) (i : ℕ) (r : Said) → r ≡ first_cause cs fine
-      → said_or fault_said (broken (pick u Upper (pick l Lower (pick s Sum Met))) i) r ≡ first_cause (cause 17 i u ∷ cause 30 i l ∷ cause 31 i s ∷ cs) fine
+      → said_or fault_said (broken (pick u (Some Upper) (pick l (Some Lower) (pick s (Some Sum) None))) i) r ≡ first_cause (cause 17 i u ∷ cause 30 i l ∷ cause 31 i s ∷ cs) fine
   unfolding said_or broken fault_said limit_number first_cause pick
   broken-said true l s i r e = refl
   broken-said false true s i r e = refl
@@ -67,7 +74,7 @@ module _ (cs : List Cause) (fine : Said) where
 
   -- of two
   broken-blank-said : (u l : Bool) (i : ℕ) (r : Said) → r ≡ first_cause cs fine
-      → said_or fault_said (broken (pick u Upper (pick l Lower Met)) i) r ≡ first_cause (cause 17 i u ∷ cause 30 i l ∷ cs) fine
+      → said_or fault_said (broken (pick u (Some Upper) (pick l (Some Lower) None)) i) r ≡ first_cause (cause 17 i u ∷ cause 30 i l ∷ cs) fine
   unfolding said_or broken fault_said limit_number first_cause pick
   broken-blank-said true l i r e = refl
   broken-blank-said false true i r e = refl
@@ -86,11 +93,11 @@ module _ (cs : List Cause) (fine : Said) where
         then-test fault_said _ (Open (count_of s)) 18 (count_of s) _ _ fine r refl (by-test fault_said _ Padding 19 0 cs fine r refl e)
 
 -- the three tests of a net with a above it, of c, and the two of a blank
-three-tests : (ku kl a c : ℕ) → limits ku kl (suc a) c ≡ pick (ltb ku a) Upper (pick (ltb kl (c - suc a)) Lower (pick (ltb (ku + kl) c) Sum Met))
+three-tests : (ku kl a c : ℕ) → limits ku kl (suc a) c ≡ pick (ltb ku a) (Some Upper) (pick (ltb kl (c - suc a)) (Some Lower) (pick (ltb (ku + kl) c) (Some Sum) None))
 unfolding limits
 three-tests ku kl a c = let e : suc a - 1 ≡ a = omega arith in rw e
 
-two-tests : (ku kl a c : ℕ) → blank_limits ku kl (suc a - 1) c ≡ pick (ltb ku a) Upper (pick (ltb kl (c - a)) Lower Met)
+two-tests : (ku kl a c : ℕ) → blank_limits ku kl (suc a - 1) c ≡ pick (ltb ku a) (Some Upper) (pick (ltb kl (c - a)) (Some Lower) None)
 unfolding blank_limits
 two-tests ku kl a c = let e : suc a - 1 ≡ a = omega arith in rw e
 
@@ -100,7 +107,7 @@ module _ (cs : List Cause) (fine : Said) (ku kl i a c : ℕ) (r : Said) (e : r �
   unfolding wire_causes fault_said
   wire-said =
       then-test fault_said (leb c a) (Position i) 16 i (broken (limits ku kl (suc a) c) i) _ fine r refl
-      (ap (λ (x : Limits). said_or fault_said (broken x i) r) (three-tests ku kl a c)
+      (ap (λ (x : Broken). said_or fault_said (broken x i) r) (three-tests ku kl a c)
       ∙ broken-said cs fine (ltb ku a) (ltb kl (c - suc a)) (ltb (ku + kl) c) i r e)
 
   blank-said : said_or fault_said (or_else (keep (ltb c a) (Position i)) (broken (blank_limits ku kl (suc a - 1) c) i)) r
@@ -108,7 +115,7 @@ module _ (cs : List Cause) (fine : Said) (ku kl i a c : ℕ) (r : Said) (e : r �
   unfolding blank_causes fault_said
   blank-said =
       then-test fault_said (ltb c a) (Position i) 16 i (broken (blank_limits ku kl (suc a - 1) c) i) _ fine r refl
-      (ap (λ (x : Limits). said_or fault_said (broken x i) r) (two-tests ku kl a c) ∙ broken-blank-said cs fine (ltb ku a) (ltb kl (c - a)) i r e)
+      (ap (λ (x : Broken). said_or fault_said (broken x i) r) (two-tests ku kl a c) ∙ broken-blank-said cs fine (ltb ku a) (ltb kl (c - a)) i r e)
 
   kind-said : (k : Kind) → said_or fault_said (or_else (keep (leb (last k c) a) (Position i)) (broken (limits_at k ku kl (suc a) c) i)) r
       ≡ first_cause (kind_causes k ku kl i a c ++ cs) fine
@@ -139,12 +146,12 @@ module _ (cs : List Cause) (fine : Said) (s : List ℕ) where
       ∙ scan-said (end_causes s ++ cs) fine (upper_of s) (lower_of s) 1 0 (entries_of s) (said_or fault_said (tail s) r) (tail-said cs fine s r e)
       ∙ ap (λ l. first_cause l fine) (sym (append_assoc (node_causes (upper_of s) (lower_of s) 1 0 (entries_of s)) (end_causes s) cs))
 
-unfit-read : (x : Option Fault) (r : Said) → said_or read_said (map Reading.Unfit x) r ≡ said_or fault_said x r
+unfit-read : (x : Option Fault) (r : Said) → said_or read_said (map unread x) r ≡ said_or fault_said x r
 unfolding said_or read_said
 unfit-read none r = refl
 unfit-read (some f) r = refl
 
-unfit-drawn : (x : Option Fault) (r : Said) → said_or draw_said (map Drawing.Unfit x) r ≡ said_or fault_said x r
+unfit-drawn : (x : Option Fault) (r : Said) → said_or draw_said (map undrawn x) r ≡ said_or fault_said x r
 unfolding said_or draw_said
 unfit-drawn none r = refl
 unfit-drawn (some f) r = refl
@@ -167,29 +174,29 @@ unfolding reading reader_causes room read_said first_cause
 read-said s row =
     let n = count_of s in
     let fine = says 0 n in
-    let short = keep (ltb (length row) n) Reading.RowShort in
+    let short = keep (ltb (length row) n) (Err ReadError.RowShort) in
     let found = or_else (middle s) (or_else (tail s) (crowded s)) in
-    let body = map Reading.Unfit found in
-    let upper = map Reading.Unfit (head s) in
+    let body = map unread found in
+    let upper = map unread (head s) in
     let causes = body_causes s ++ (cause 23 0 (ltb 255 (nets_of s)) ∷ []) in
     let b : said_or read_said body fine ≡ first_cause causes fine = unfit-read found fine ∙ nets-said s fine in
-    said_or-settle read_said (or_else upper (or_else short body)) (Reading.Row n)
+    said_or-settle read_said (or_else upper (or_else short body)) (Ok n)
     ∙ said_or-or read_said upper (or_else short body) fine
     ∙ unfit-read (head s) (said_or read_said (or_else short body) fine)
     ∙ head-said (cause 14 0 (ltb (length row) n) ∷ causes) fine s (said_or read_said (or_else short body) fine)
-    (then-test read_said (ltb (length row) n) Reading.RowShort 14 0 body causes fine fine refl b)
+    (then-test read_said (ltb (length row) n) (Err ReadError.RowShort) 14 0 body causes fine fine refl b)
 
 draw-said : (s film : List ℕ) → draw_said (drawing s film) ≡ first_cause (drawer_causes s film) (says 0 (length (records 16 s)))
 unfolding drawing judge drawer_causes draw_said first_cause
 draw-said s film =
     let k = length (records 16 s) in
     let fine = says 0 k in
-    let short = keep (ltb (length film) (5 * k)) Drawing.FilmShort in
+    let short = keep (ltb (length film) (5 * k)) (Err DrawError.FilmShort) in
     let t = cause 21 0 (ltb (length film) (5 * k)) ∷ [] in
     let r = said_or draw_said short fine in
-    let e : r ≡ first_cause t fine = by-test draw_said (ltb (length film) (5 * k)) Drawing.FilmShort 21 0 [] fine fine refl refl in
-    said_or-settle draw_said (or_else (map Drawing.Unfit (judge s)) short) (Drawing.Film k)
-    ∙ said_or-or draw_said (map Drawing.Unfit (judge s)) short fine
+    let e : r ≡ first_cause t fine = by-test draw_said (ltb (length film) (5 * k)) (Err DrawError.FilmShort) 21 0 [] fine fine refl refl in
+    said_or-settle draw_said (or_else (map undrawn (judge s)) short) (Ok k)
+    ∙ said_or-or draw_said (map undrawn (judge s)) short fine
     ∙ unfit-drawn (judge s) r
     ∙ said_or-or fault_said (head s) (or_else (middle s) (tail s)) r
     ∙ head-said (body_causes s ++ t) fine s (said_or fault_said (or_else (middle s) (tail s)) r) (body-said t fine s r e)
@@ -215,11 +222,11 @@ route-said row ku kl work out =
     let c₃ = cause 3 (suc i) (ltb i n) ∷ c₄ in
     let c₂ = cause 2 0 (not (takes ku kl)) ∷ c₃ in
     said_or-settle route_said _ late
-    ∙ then-test route_said (wrong_count n) Routing.RowLength 1 0 _ c₂ fine r refl
-    (then-test route_said (not (takes ku kl)) Routing.Tracks 2 0 _ c₃ fine r refl
-    (then-test route_said (ltb i n) (Routing.Lone (suc i)) 3 (suc i) _ c₄ fine r refl
-    (then-test route_said (ltb (length work) (90 * n)) Routing.WorkShort 4 0 _ c₅ fine r refl
-    (by-test route_said (ltb (length out) (size n)) Routing.SheetShort 5 0 c₆ fine r refl (outcome-said row ku kl (first ku kl (nodes row)))))))
+    ∙ then-test route_said (wrong_count n) (Err RouteError.RowLength) 1 0 _ c₂ fine r refl
+    (then-test route_said (not (takes ku kl)) (Err RouteError.Tracks) 2 0 _ c₃ fine r refl
+    (then-test route_said (ltb i n) (Err (RouteError.Lone (suc i))) 3 (suc i) _ c₄ fine r refl
+    (then-test route_said (ltb (length work) (90 * n)) (Err RouteError.WorkShort) 4 0 _ c₅ fine r refl
+    (by-test route_said (ltb (length out) (size n)) (Err RouteError.SheetShort) 5 0 c₆ fine r refl (outcome-said row ku kl (first ku kl (nodes row)))))))
 
 neither : {n a b : ℕ} → n ≢ a → n ≢ b → (n ≡ a) ⊎ (n ≡ b) → ⊥
 neither h g (inl e) = h e
@@ -229,43 +236,43 @@ neither h g (inr e) = g e
 module _ (row : List ℕ) (ku kl : ℕ) (work out : List ℕ) where
   sheet-kept : (r : Routing) → (route_said r).number ≢ 0 → sheet_after r row ku kl out ≡ out
   unfolding route_said sheet_after
-  sheet-kept (Routing.Sheet n) h = absurd (h refl)
-  sheet-kept Routing.RowLength h = refl
-  sheet-kept Routing.Tracks h = refl
-  sheet-kept (Routing.Lone i) h = refl
-  sheet-kept Routing.WorkShort h = refl
-  sheet-kept Routing.SheetShort h = refl
-  sheet-kept (Routing.Stuck i) h = refl
+  sheet-kept (Ok n) h = absurd (h refl)
+  sheet-kept (Err RouteError.RowLength) h = refl
+  sheet-kept (Err RouteError.Tracks) h = refl
+  sheet-kept (Err (RouteError.Lone i)) h = refl
+  sheet-kept (Err RouteError.WorkShort) h = refl
+  sheet-kept (Err RouteError.SheetShort) h = refl
+  sheet-kept (Err (RouteError.Stuck i)) h = refl
 
   sheet-written : (r : Routing) → (route_said r).number ≡ 0 → sheet_after r row ku kl out ≡ written (first_sheet row ku kl) out
   unfolding route_said sheet_after
-  sheet-written (Routing.Sheet n) h = refl
-  sheet-written Routing.RowLength h = absurd (omega arith)
-  sheet-written Routing.Tracks h = absurd (omega arith)
-  sheet-written (Routing.Lone i) h = absurd (omega arith)
-  sheet-written Routing.WorkShort h = absurd (omega arith)
-  sheet-written Routing.SheetShort h = absurd (omega arith)
-  sheet-written (Routing.Stuck i) h = absurd (omega arith)
+  sheet-written (Ok n) h = refl
+  sheet-written (Err RouteError.RowLength) h = absurd (omega arith)
+  sheet-written (Err RouteError.Tracks) h = absurd (omega arith)
+  sheet-written (Err (RouteError.Lone i)) h = absurd (omega arith)
+  sheet-written (Err RouteError.WorkShort) h = absurd (omega arith)
+  sheet-written (Err RouteError.SheetShort) h = absurd (omega arith)
+  sheet-written (Err (RouteError.Stuck i)) h = absurd (omega arith)
 
   work-kept : (r : Routing) → (route_said r).number ≢ 0 → (route_said r).number ≢ 6 → work_after r row work ≡ work
   unfolding route_said work_after
-  work-kept (Routing.Sheet n) h g = absurd (h refl)
-  work-kept Routing.RowLength h g = refl
-  work-kept Routing.Tracks h g = refl
-  work-kept (Routing.Lone i) h g = refl
-  work-kept Routing.WorkShort h g = refl
-  work-kept Routing.SheetShort h g = refl
-  work-kept (Routing.Stuck i) h g = absurd (g refl)
+  work-kept (Ok n) h g = absurd (h refl)
+  work-kept (Err RouteError.RowLength) h g = refl
+  work-kept (Err RouteError.Tracks) h g = refl
+  work-kept (Err (RouteError.Lone i)) h g = refl
+  work-kept (Err RouteError.WorkShort) h g = refl
+  work-kept (Err RouteError.SheetShort) h g = refl
+  work-kept (Err (RouteError.Stuck i)) h g = absurd (g refl)
 
   work-cleared : (r : Routing) → ((route_said r).number ≡ 0) ⊎ ((route_said r).number ≡ 6) → work_after r row work ≡ cleared row work
   unfolding route_said work_after
-  work-cleared (Routing.Sheet n) h = refl
-  work-cleared Routing.RowLength h = absurd (neither (λ e. omega arith) (λ e. omega arith) h)
-  work-cleared Routing.Tracks h = absurd (neither (λ e. omega arith) (λ e. omega arith) h)
-  work-cleared (Routing.Lone i) h = absurd (neither (λ e. omega arith) (λ e. omega arith) h)
-  work-cleared Routing.WorkShort h = absurd (neither (λ e. omega arith) (λ e. omega arith) h)
-  work-cleared Routing.SheetShort h = absurd (neither (λ e. omega arith) (λ e. omega arith) h)
-  work-cleared (Routing.Stuck i) h = refl
+  work-cleared (Ok n) h = refl
+  work-cleared (Err RouteError.RowLength) h = absurd (neither (λ e. omega arith) (λ e. omega arith) h)
+  work-cleared (Err RouteError.Tracks) h = absurd (neither (λ e. omega arith) (λ e. omega arith) h)
+  work-cleared (Err (RouteError.Lone i)) h = absurd (neither (λ e. omega arith) (λ e. omega arith) h)
+  work-cleared (Err RouteError.WorkShort) h = absurd (neither (λ e. omega arith) (λ e. omega arith) h)
+  work-cleared (Err RouteError.SheetShort) h = absurd (neither (λ e. omega arith) (λ e. omega arith) h)
+  work-cleared (Err (RouteError.Stuck i)) h = refl
 
 -- a fault that is found has a number of its own, from 11 on
 module _ {A : Type 0} (said : A → Said) where
@@ -283,12 +290,12 @@ module _ {A : Type 0} (said : A → Said) where
   keep-number true a h = h
   keep-number false a h = omega arith
 
-broken-number : (l : Limits) (i : ℕ) → 11 ≤ number_of fault_said (broken l i)
+broken-number : (l : Broken) (i : ℕ) → 11 ≤ number_of fault_said (broken l i)
 unfolding number_of broken fault_said limit_number
-broken-number Met i = omega arith
-broken-number Upper i = omega arith
-broken-number Lower i = omega arith
-broken-number Sum i = omega arith
+broken-number None i = omega arith
+broken-number (Some Upper) i = omega arith
+broken-number (Some Lower) i = omega arith
+broken-number (Some Sum) i = omega arith
 
 scan-number : (ku kl i b : ℕ) (es : List Entry) → 11 ≤ number_of fault_said (scan ku kl i b es)
 unfolding number_of scan fault_at fault_said
@@ -332,12 +339,12 @@ module _ (s : List ℕ) where
 module _ (s row : List ℕ) where
   row_kept : (r : Reading) → (read_said r).number ≢ 0 → row_after r s row ≡ row
   unfolding read_said row_after
-  row_kept (Reading.Row n) h = absurd (h refl)
-  row_kept Reading.RowShort h = refl
-  row_kept (Reading.Unfit e) h = refl
+  row_kept (Ok n) h = absurd (h refl)
+  row_kept (Err ReadError.RowShort) h = refl
+  row_kept (Err (ReadError.Unfit e)) h = refl
 
   answer : Option Fault → Bool → Option Fault → Reading
-  answer a t b = settle (or_else (map Reading.Unfit a) (or_else (keep t Reading.RowShort) (map Reading.Unfit b))) (Reading.Row (count_of s))
+  answer a t b = settle (or_else (map unread a) (or_else (keep t (Err ReadError.RowShort)) (map unread b))) (Ok (count_of s))
 
   row_written : (read_said (reading s row)).number ≡ 0 → row_after (reading s row) s row ≡ written (row_of s) row
   unfolding reading room read_said row_after settle or_else keep number_of answer
@@ -353,19 +360,19 @@ module _ (s row : List ℕ) where
 module _ (s film : List ℕ) where
   film-kept : (r : Drawing) (film' : List ℕ) → (draw_said r).number ≢ 0 → FilmAfter r s film film' → film' ≡ film
   unfolding draw_said FilmAfter
-  film-kept (Drawing.Film k) film' h a = absurd (h refl)
-  film-kept Drawing.FilmShort film' h a = a
-  film-kept (Drawing.Unfit e) film' h a = a
+  film-kept (Ok k) film' h a = absurd (h refl)
+  film-kept (Err DrawError.FilmShort) film' h a = a
+  film-kept (Err (DrawError.Unfit e)) film' h a = a
 
   film-written : (r : Drawing) (film' : List ℕ) → r ≡ drawing s film → (draw_said r).number ≡ 0 → FilmAfter r s film film' → Filmed (records 16 s) film film'
   unfolding draw_said FilmAfter drawing settle or_else keep number_of judge
-  film-written (Drawing.Film k) film' e h a = record { order = a.0; same = a.1; bytes = a.2 }
-  film-written Drawing.FilmShort film' e h a = absurd (omega arith)
-  film-written (Drawing.Unfit f) film' e h a =
+  film-written (Ok k) film' e h a = record { order = a.0; same = a.1; bytes = a.2 }
+  film-written (Err DrawError.FilmShort) film' e h a = absurd (omega arith)
+  film-written (Err (DrawError.Unfit f)) film' e h a =
       absurd (go (judge s) (ltb (length film) (5 * length (records 16 s))) (judge-number s) e)
     where
       go : (j : Option Fault) (t : Bool) → 11 ≤ number_of fault_said j
-          → Drawing.Unfit f ≡ settle (or_else (map Drawing.Unfit j) (keep t Drawing.FilmShort)) (Drawing.Film (length (records 16 s))) → ⊥
+          → Err (DrawError.Unfit f) ≡ settle (or_else (map undrawn j) (keep t (Err DrawError.FilmShort))) (Ok (length (records 16 s))) → ⊥
       go (some g) t l e = let z : f ≡ g = cc in omega (arith, rw (sym z) at l)
       go none true l e = let z : ◌≡◌ {A = ℕ} 0 1 = cc in omega arith
       go none false l e = let z : ◌≡◌ {A = ℕ} 0 1 = cc in omega arith

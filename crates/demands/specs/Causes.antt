@@ -1,7 +1,9 @@
 -- Document 01's table of causes, with request 6's limits and request 1's blanks and 23, in the order in which each entry point tests them.
 use Rattle.std.specs.Prelude.{Bool, not, ◌||◌, List, [], ◌∷◌, ◌++◌, ℕ, suc, ◌+◌, ◌-◌, ◌*◌, length, leb, ltb, eqb}
 use Rattle.rules.specs.Basic.{pick, is_none}
-use Rattle.rules.specs.Row.{Kind, B, M, E, N, nodes}
+use Rattle.rules.specs.declared.Kind.{Kind}
+use Rattle.rules.specs.declared.Kind.TheVariants.{B, M, E, N}
+use Rattle.rules.specs.Row.{nodes}
 use Rattle.rules.specs.Street.{counted, first, failing}
 use Rattle.rules.specs.Sheet.{takes, kind_in, size, Entry, entry, upper_of, lower_of, count_of, entries_of, padding_of, nets_of}
 use Rattle.rules.specs.Film.{records}

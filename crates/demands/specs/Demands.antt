@@ -5,12 +5,11 @@
 use Rattle.std.specs.Prelude.{◌≡◌, true, false, ◌↔◌, ◌≢◌, ◌⊎◌, ℕ, suc, ◌*◌, ◌≤◌, ◌<◌, length, take}
 use mathlib.Core.List.{List, [], Memᴰ}
 use Rattle.std.proofs.Math.Option.{none}
-use Rattle.rules.specs.declared.Routing.{Routing}
-use Rattle.rules.specs.declared.Routing.TheVariants.{Sheet, Stuck}
-use Rattle.rules.specs.declared.Reading.{Reading}
-use Rattle.rules.specs.declared.Reading.TheVariants.{Row}
-use Rattle.rules.specs.declared.Drawing.{Drawing}
-use Rattle.rules.specs.declared.Drawing.TheVariants.{Film}
+use Rattle.std.specs.declared.result.Result.TheVariants.{Ok, Err}
+use Rattle.rules.specs.Answers.{Routing}
+use Rattle.rules.specs.declared.RouteError.TheVariants.{Stuck}
+use Rattle.rules.specs.Answers.{Reading}
+use Rattle.rules.specs.Answers.{Drawing}
 use Rattle.rules.specs.Row.{blank, joined, nodes, SamePins}
 use Rattle.rules.specs.Street.{Placing, positions, choices, Choice, Earlier, IsFirst, StopsAt}
 use Rattle.rules.specs.Bits.{Below}
@@ -95,9 +94,9 @@ pub record Obeying (s film film' : List ℕ) (k : ℕ) : Type 0 where
 -- back the joined pins. The wires drawn from it obey the published wire rules: separate nets never touch, each net joins its pins, no track is overfilled."
 -- With request 1 the reader asks for at most 255 nets too, the blanks are given back, and no wire touches one.
 pub record Demand2 : Type 0 where
-  pub accepted : {s : List ℕ} (c : ReaderCall s) → count_of s ≤ length c.row → c.answer ≡ Row (count_of s) ↔ (SheetOf s × (nets_of s ≤ 255))
-  pub given_back : {s : List ℕ} (c : ReaderCall s) (n : ℕ) → c.answer ≡ Row n → (x : SheetOf s) → SamePins x.row (take n c.row')
-  pub drawn : {s : List ℕ} (c : DrawerCall s) (k : ℕ) → c.answer ≡ Film k → Obeying s c.film c.film' k
+  pub accepted : {s : List ℕ} (c : ReaderCall s) → count_of s ≤ length c.row → c.answer ≡ Ok (count_of s) ↔ (SheetOf s × (nets_of s ≤ 255))
+  pub given_back : {s : List ℕ} (c : ReaderCall s) (n : ℕ) → c.answer ≡ Ok n → (x : SheetOf s) → SamePins x.row (take n c.row')
+  pub drawn : {s : List ℕ} (c : DrawerCall s) (k : ℕ) → c.answer ≡ Ok k → Obeying s c.film c.film' k
 
 -- Demand 3. "Whatever labels a row carries, and whatever stood in the work space and the sheet buffer: a row that passes checks 1 to 5 gets a sheet exactly
 -- when some placing of its wires meets the street rules at every pin, and the answer 6 otherwise. The sheet is, byte for byte, that of the first such
@@ -107,20 +106,20 @@ pub record Demand2 : Type 0 where
 -- and its choices at the B nodes come first of all choices; and 6 names no blank.
 pub record Demand3 : Type 0 where
   pub sheet-exactly : {row : List ℕ} {ku kl : ℕ} (c : RouterCall row ku kl) → Checked row ku kl c.work c.out
-      → c.answer ≡ Sheet (length row) ↔ ((ps : List ℕ) × Placing ku kl (nodes row) ps)
+      → c.answer ≡ Ok (length row) ↔ ((ps : List ℕ) × Placing ku kl (nodes row) ps)
   pub six-exactly : {row : List ℕ} {ku kl : ℕ} (c : RouterCall row ku kl) → Checked row ku kl c.work c.out
-      → ((i : ℕ) × (c.answer ≡ Stuck i)) ↔ ((ps : List ℕ) → Placing ku kl (nodes row) ps → ⊥)
+      → ((i : ℕ) × (c.answer ≡ Err (Stuck i))) ↔ ((ps : List ℕ) → Placing ku kl (nodes row) ps → ⊥)
   pub failing-node : {row : List ℕ} {ku kl : ℕ} (c : RouterCall row ku kl) → Checked row ku kl c.work c.out
-      → (i : ℕ) → c.answer ≡ Stuck i ↔ StopsAt ku kl (nodes row) i
-  pub first-bytes : {row : List ℕ} {ku kl : ℕ} (c : RouterCall row ku kl) → c.answer ≡ Sheet (length row)
+      → (i : ℕ) → c.answer ≡ Err (Stuck i) ↔ StopsAt ku kl (nodes row) i
+  pub first-bytes : {row : List ℕ} {ku kl : ℕ} (c : RouterCall row ku kl) → c.answer ≡ Ok (length row)
       → (ps : List ℕ) × IsFirst ku kl (nodes row) ps × (c.out' ≡ written (sheet ku kl (nodes row) ps) c.out)
   pub first-chosen : (row : List ℕ) (ku kl : ℕ) (ps : List ℕ) → IsFirst ku kl (nodes row) ps
       → (ps ≡ positions kl (nodes row) [] (choices (nodes row) ps))
       × ((cs : List ℕ) → Choice ku kl (nodes row) cs → (cs ≡ choices (nodes row) ps) ⊎ Earlier (choices (nodes row) ps) cs)
   pub six-no-blank : {row : List ℕ} {ku kl : ℕ} (c : RouterCall row ku kl) → Checked row ku kl c.work c.out
-      → (i : ℕ) → c.answer ≡ Stuck (suc i) → blank row i ≡ false
+      → (i : ℕ) → c.answer ≡ Err (Stuck (suc i)) → blank row i ≡ false
   pub equal-exactly : {row row₂ : List ℕ} {ku kl ku₂ kl₂ : ℕ} (c : RouterCall row ku kl) (c₂ : RouterCall row₂ ku₂ kl₂)
-      → c.answer ≡ Sheet (length row) → c₂.answer ≡ Sheet (length row₂)
+      → c.answer ≡ Ok (length row) → c₂.answer ≡ Ok (length row₂)
       → take (size (length row)) c.out' ≡ take (size (length row₂)) c₂.out' ↔ (SamePins row row₂ × (ku ≡ ku₂) × (kl ≡ kl₂))
 
 -- From end to end: a row that the router took, its sheet as it stands at the start of the lent buffer, and calls on that sheet.
@@ -129,15 +128,15 @@ sheet_of {row} c = take (size (length row)) c.out'
 
 pub record EndToEnd : Type 0 where
   -- the reader takes it and gives back the row's pins, and the agreement test says yes
-  pub read_back : {row : List ℕ} {ku kl : ℕ} (c : RouterCall row ku kl) → c.answer ≡ Sheet (length row) → (d : ReaderCall (sheet_of c))
-      → length row ≤ length d.row → (d.answer ≡ Row (length row)) × SamePins row (take (length row) d.row')
-  pub agreed : {row : List ℕ} {ku kl : ℕ} (c : RouterCall row ku kl) → c.answer ≡ Sheet (length row) → agrees row (sheet_of c) ≡ true
+  pub read_back : {row : List ℕ} {ku kl : ℕ} (c : RouterCall row ku kl) → c.answer ≡ Ok (length row) → (d : ReaderCall (sheet_of c))
+      → length row ≤ length d.row → (d.answer ≡ Ok (length row)) × SamePins row (take (length row) d.row')
+  pub agreed : {row : List ℕ} {ku kl : ℕ} (c : RouterCall row ku kl) → c.answer ≡ Ok (length row) → agrees row (sheet_of c) ≡ true
   -- 14 records a node are room enough for its film
-  pub drawable : {row : List ℕ} {ku kl : ℕ} (c : RouterCall row ku kl) → c.answer ≡ Sheet (length row) → (d : DrawerCall (sheet_of c))
-      → 5 * (14 * length row) ≤ length d.film → (k : ℕ) × (d.answer ≡ Film k)
+  pub drawable : {row : List ℕ} {ku kl : ℕ} (c : RouterCall row ku kl) → c.answer ≡ Ok (length row) → (d : DrawerCall (sheet_of c))
+      → 5 * (14 * length row) ≤ length d.film → (k : ℕ) × (d.answer ≡ Ok k)
   -- the film joins two pins exactly where the row joins them, and touches no blank
-  pub joins : {row : List ℕ} {ku kl : ℕ} (c : RouterCall row ku kl) → c.answer ≡ Sheet (length row) → (d : DrawerCall (sheet_of c))
-      → (k : ℕ) → d.answer ≡ Film k
+  pub joins : {row : List ℕ} {ku kl : ℕ} (c : RouterCall row ku kl) → c.answer ≡ Ok (length row) → (d : DrawerCall (sheet_of c))
+      → (k : ℕ) → d.answer ≡ Ok k
       → (rs : List Rec)
       × (d.film' ≡ written (film_bytes rs) d.film)
       × ((i j : ℕ) → i < length row → j < length row → joined row i j ≡ true ↔ ((net : ℕ) × Linked net rs (16 * i) axis (16 * j) axis))
@@ -146,6 +145,6 @@ pub record EndToEnd : Type 0 where
   pub same_answer : {row row₂ : List ℕ} {ku kl : ℕ} (c : RouterCall row ku kl) (c₂ : RouterCall row₂ ku kl) → SamePins row row₂
       → Checked row ku kl c.work c.out → Checked row₂ ku kl c₂.work c₂.out → c.answer ≡ c₂.answer
   pub same-sheet : {row row₂ : List ℕ} {ku kl : ℕ} (c : RouterCall row ku kl) (c₂ : RouterCall row₂ ku kl) → SamePins row row₂
-      → c.answer ≡ Sheet (length row) → c₂.answer ≡ Sheet (length row₂) → sheet_of c ≡ sheet_of c₂
-  pub same-records : {s : List ℕ} (c c₂ : DrawerCall s) (k k₂ : ℕ) → c.answer ≡ Film k → c₂.answer ≡ Film k₂
+      → c.answer ≡ Ok (length row) → c₂.answer ≡ Ok (length row₂) → sheet_of c ≡ sheet_of c₂
+  pub same-records : {s : List ℕ} (c c₂ : DrawerCall s) (k k₂ : ℕ) → c.answer ≡ Ok k → c₂.answer ≡ Ok k₂
       → (rs : List Rec) × Filmed rs c.film c.film' × Filmed rs c₂.film c₂.film'

@@ -1,12 +1,12 @@
 -- Functions in the entry points' places, when one meets its contract, and document 01's impostors: none of them does.
 use Rattle.std.specs.Prelude.{◌≡◌, Bool, List, ◌≢◌, ℕ, ◌*◌, ◌≤◌, ◌<◌, length, take}
 use Rattle.std.proofs.Math.Option.{none}
-use Rattle.rules.specs.declared.Routing.{Routing}
-use Rattle.rules.specs.declared.Routing.TheVariants.{Sheet, Stuck}
-use Rattle.rules.specs.declared.Reading.{Reading}
-use Rattle.rules.specs.declared.Reading.TheVariants.{Row}
-use Rattle.rules.specs.declared.Drawing.{Drawing}
-use Rattle.rules.specs.declared.Drawing.TheVariants.{Film, FilmShort}
+use Rattle.std.specs.declared.result.Result.TheVariants.{Ok, Err}
+use Rattle.rules.specs.Answers.{Routing}
+use Rattle.rules.specs.declared.RouteError.TheVariants.{Stuck}
+use Rattle.rules.specs.Answers.{Reading}
+use Rattle.rules.specs.Answers.{Drawing}
+use Rattle.rules.specs.declared.DrawError.TheVariants.{FilmShort}
 use Rattle.rules.specs.Row.{nodes}
 use Rattle.rules.specs.Street.{Passes}
 use Rattle.rules.specs.Bits.{Below}
@@ -50,7 +50,7 @@ Fair l = Bytes l × Checked l.row l.ku l.kl l.work l.sheet
 
 -- always says 6
 abbrev pub AlwaysSix : Router → Type 0
-AlwaysSix f = (l : Lent) → Fair l → (i : ℕ) × (f.answer l ≡ Stuck i)
+AlwaysSix f = (l : Lent) → Fair l → (i : ℕ) × (f.answer l ≡ Err (Stuck i))
 
 -- says 6, or anything else, before looking at the row: rows of one length under the same tracks get one answer
 abbrev pub BeforeLooking : Router → Type 0
@@ -58,7 +58,7 @@ BeforeLooking f = (l m : Lent) → Fair l → Fair m → length l.row ≡ length
 
 -- returns a fixed sheet
 abbrev pub FixedSheet : Router → Type 0
-FixedSheet f = (s : List ℕ) × ((l : Lent) → Fair l → f.answer l ≡ Sheet (length l.row) → f.sheet l ≡ written s l.sheet)
+FixedSheet f = (s : List ℕ) × ((l : Lent) → Fair l → f.answer l ≡ Ok (length l.row) → f.sheet l ≡ written s l.sheet)
 
 -- returns without writing
 abbrev pub NothingWritten : Router → Type 0
@@ -66,7 +66,7 @@ NothingWritten f = (l : Lent) → Fair l → f.sheet l ≡ l.sheet
 
 -- routes the first k nodes and fills in the others
 abbrev pub FirstNodesAlone : ℕ → Router → Type 0
-FirstNodesAlone k f = (l : Lent) → Fair l → Passes l.ku l.kl (take k (nodes l.row)) → f.answer l ≡ Sheet (length l.row)
+FirstNodesAlone k f = (l : Lent) → Fair l → Passes l.ku l.kl (take k (nodes l.row)) → f.answer l ≡ Ok (length l.row)
 
 -- a function in the reader's place: its answer, and the row afterwards
 pub record Reader : Type 0 where
@@ -78,7 +78,7 @@ MeetsReader f = (s row : List ℕ) → Below 256 s → Below 256 row → GivenBa
 
 -- turns every sheet down
 abbrev pub TurnsDown : Reader → Type 0
-TurnsDown f = (s row : List ℕ) (n : ℕ) → f.answer s row ≡ Row n → ⊥
+TurnsDown f = (s row : List ℕ) (n : ℕ) → f.answer s row ≡ Ok n → ⊥
 
 -- a function in the agreement test's place
 abbrev pub MeetsAgreement : (List ℕ → List ℕ → Bool) → Type 0
@@ -102,7 +102,7 @@ pub record SaysEmpty (f : Drawer) : Type 0 where
   pub film : List ℕ
   pub bytes : Below 256 s × Below 256 film
   pub net : 0 < nets_of s
-  pub says : f.answer s film ≡ Film 0
+  pub says : f.answer s film ≡ Ok 0
 
 -- invents a record count
 pub record Invented (f : Drawer) : Type 0 where
@@ -110,7 +110,7 @@ pub record Invented (f : Drawer) : Type 0 where
   pub film : List ℕ
   pub k : ℕ
   pub bytes : Below 256 s × Below 256 film
-  pub says : f.answer s film ≡ Film k
+  pub says : f.answer s film ≡ Ok k
   pub other : k ≢ length (records 16 s)
 
 -- says 21 hastily: of a sheet without a fault whose records have room
@@ -120,4 +120,4 @@ pub record Hasty (f : Drawer) : Type 0 where
   pub bytes : Below 256 s × Below 256 film
   pub faultless : judge s ≡ none
   pub room : 5 * length (records 16 s) ≤ length film
-  pub says : f.answer s film ≡ FilmShort
+  pub says : f.answer s film ≡ Err FilmShort

@@ -12,7 +12,9 @@ use lib.Dec.{eqb, ltb, leb}
 use borrow.Author.Tests.{not-false, eqb-true, eq-eqb, ltb-false, le-ltb, leb-true, le-leb}
 use Rattle.rules.specs.declared.Fault.TheVariants.{Head, Tracks, Length, Open, Padding, Nets}
 use Rattle.rules.specs.Basic.{pick, keep, or_else, tabulate}
-use Rattle.rules.specs.Row.{blank, home, later, Kind, B, M, E, N, Node, node, node_at, nodes, kind_of, SamePins}
+use Rattle.rules.specs.declared.Kind.{Kind}
+use Rattle.rules.specs.declared.Kind.TheVariants.{B, M, E, N}
+use Rattle.rules.specs.Row.{blank, home, later, Node, node, node_at, nodes, kind_of, SamePins}
 use Rattle.rules.specs.Street.{last, counted, kind, run}
 use Rattle.rules.specs.Bits.{Below, bytes}
 use Rattle.rules.specs.Sheet.{takes, code, kind_in, Entry, entry, entries, size, sheet_bits, sheet, upper_of, lower_of, count_of, entries_of, padding_of, begun, begun_by, nets_of, net_at, nets, pins_of, row_of, Placed, SheetOf}

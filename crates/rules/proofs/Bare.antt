@@ -10,7 +10,8 @@ use lib.ListN.{length, take}
 use lib.Seq.{take-take}
 use lib.Dec.{eqb→eq}
 use Rattle.rules.specs.Basic.{put, cut}
-use Rattle.rules.specs.Row.{before, B, M, E, N, Node, node}
+use Rattle.rules.specs.declared.Kind.TheVariants.{B, M, E, N}
+use Rattle.rules.specs.Row.{before, Node, node}
 use Rattle.rules.specs.Street.{counted, kind, stands, next, run, Placing, positions, choices, Choice, IsFirst, Passes, StopsAt, empty}
 use Rattle.rules.proofs.Runs.{Leads, at-ends, onward, onward-leads}
 use Rattle.rules.proofs.Search.{ends-empty}

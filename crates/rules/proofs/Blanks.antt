@@ -7,9 +7,11 @@ use Prim.Native.Nat.{ℕ, suc, ◌+◌, ◌-◌, ◌≤◌, ◌<◌}
 use native.Mathlib.Omega.{arith}
 use lib.ListN.{length, take, get_or}
 use lib.Seq.{take-suc}
-use Rattle.rules.specs.declared.Routing.TheVariants.{Stuck}
+use Rattle.std.specs.declared.result.Result.TheVariants.{Err}
+use Rattle.rules.specs.declared.RouteError.TheVariants.{Stuck}
 use Rattle.rules.specs.Basic.{and_then}
-use Rattle.rules.specs.Row.{blank, N, Node, node, node_at, nodes}
+use Rattle.rules.specs.declared.Kind.TheVariants.{N}
+use Rattle.rules.specs.Row.{blank, Node, node, node_at, nodes}
 use Rattle.rules.specs.Street.{counted, kind, stands, next, run, Passes, StopsAt}
 use Rattle.rules.specs.Answers.{routing}
 use Rattle.rules.proofs.Fits.{FitsAt}
@@ -64,5 +66,5 @@ module _ (ku kl : ℕ) where
 
 -- the router's 6 names no blank
 pub six-no-blank : (row : List ℕ) (ku kl : ℕ) (work out : List ℕ) → Checked row ku kl work out
-    → (i : ℕ) → routing row ku kl work out ≡ Stuck (suc i) → blank row i ≡ false
+    → (i : ℕ) → routing row ku kl work out ≡ Err (Stuck (suc i)) → blank row i ≡ false
 six-no-blank row ku kl work out c i e = never-at-blank ku kl row i ((six-exactly row ku kl work out c (suc i)).0 e)

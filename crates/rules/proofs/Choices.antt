@@ -11,7 +11,8 @@ use lib.Dec.{eqb→eq}
 use native.Mathlib.Nat.{eq-or-lt_of_le}
 use native.Mathlib.Omega.{arith}
 use Rattle.rules.specs.Basic.{put, cut}
-use Rattle.rules.specs.Row.{before, B, M, E, N, Node, node}
+use Rattle.rules.specs.declared.Kind.TheVariants.{B, M, E, N}
+use Rattle.rules.specs.Row.{before, Node, node}
 use Rattle.rules.specs.Street.{run, last, counted, kind, stands, next, Placing, positions, choices, Choice, Earlier, here, there, IsFirst, empty}
 use Rattle.rules.proofs.Earlier.{earlier-asymmetric, earlier-tail, earlier-map, earlier-lengths, earlier-transitive}
 use Rattle.rules.proofs.Fits.{FitsAt}

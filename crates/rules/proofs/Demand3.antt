@@ -9,7 +9,8 @@ use native.Mathlib.Omega.{arith}
 use lib.ListN.{length}
 use lib.Dec.{ltb}
 use borrow.Author.Tests.{not-false, ltb-false}
-use Rattle.rules.specs.declared.Routing.TheVariants.{Sheet, RowLength, Tracks, Lone, WorkShort, SheetShort, Stuck}
+use Rattle.std.specs.declared.result.Result.TheVariants.{Ok, Err}
+use Rattle.rules.specs.declared.RouteError.TheVariants.{RowLength, Tracks, Lone, WorkShort, SheetShort, Stuck}
 use Rattle.rules.specs.Basic.{least, keep, settle}
 use Rattle.rules.specs.Row.{lone, nodes, SamePins}
 use Rattle.rules.specs.Street.{Placing, IsFirst, StopsAt, first, failing}
@@ -43,21 +44,21 @@ module _ (row : List ℕ) (ku kl : ℕ) (work out : List ℕ) where
   checked-fit e =
       let n : ℕ = length row in
       let i : ℕ = least (lone row) n in
-      let h₁ = or_else-none (keep (wrong_count n) RowLength) _ e in
-      let h₂ = or_else-none (keep (not (takes ku kl)) Tracks) _ h₁.1 in
-      let h₃ = or_else-none (keep (ltb i n) (Lone (suc i))) _ h₂.1 in
-      let h₄ = or_else-none (keep (ltb (length work) (90 * n)) WorkShort) _ h₃.1 in
-      let c = count-within n (keep-none _ RowLength h₁.0) in
-      let t = takes-le ku kl (not-false (takes ku kl) (keep-none _ Tracks h₂.0)) in
-      let l : n ≤ i = ltb-false i n (keep-none _ (Lone (suc i)) h₃.0) in
+      let h₁ = or_else-none (keep (wrong_count n) (Err RowLength)) _ e in
+      let h₂ = or_else-none (keep (not (takes ku kl)) (Err Tracks)) _ h₁.1 in
+      let h₃ = or_else-none (keep (ltb i n) (Err (Lone (suc i)))) _ h₂.1 in
+      let h₄ = or_else-none (keep (ltb (length work) (90 * n)) (Err WorkShort)) _ h₃.1 in
+      let c = count-within n (keep-none _ (Err RowLength) h₁.0) in
+      let t = takes-le ku kl (not-false (takes ku kl) (keep-none _ (Err Tracks) h₂.0)) in
+      let l : n ≤ i = ltb-false i n (keep-none _ (Err (Lone (suc i))) h₃.0) in
       record {
         least = c.0;
         most = c.1;
         upper = t.0;
         lower = t.1;
         whole = λ j h. least-before (lone row) n j (omega arith);
-        work-long = ltb-false (length work) (90 * n) (keep-none _ WorkShort h₄.0);
-        sheet-long = ltb-false (length out) (size n) (keep-none _ SheetShort h₄.1);
+        work-long = ltb-false (length work) (90 * n) (keep-none _ (Err WorkShort) h₄.0);
+        sheet-long = ltb-false (length out) (size n) (keep-none _ (Err SheetShort) h₄.1);
       }
 
   module _ (checked : Checked row ku kl work out) where
@@ -70,9 +71,9 @@ module _ (row : List ℕ) (ku kl : ℕ) (work out : List ℕ) where
 
     -- what the router says and writes, with the reason
     pub data Answered : Type 0 where
-      placed : (ps : List ℕ) → IsFirst ku kl (nodes row) ps → routing row ku kl work out ≡ Sheet (length row)
+      placed : (ps : List ℕ) → IsFirst ku kl (nodes row) ps → routing row ku kl work out ≡ Ok (length row)
           → first_sheet row ku kl ≡ sheet ku kl (nodes row) ps → Answered
-      stuck : (i : ℕ) → ((ps : List ℕ) → Placing ku kl (nodes row) ps → ⊥) → StopsAt ku kl (nodes row) i → routing row ku kl work out ≡ Stuck i
+      stuck : (i : ℕ) → ((ps : List ℕ) → Placing ku kl (nodes row) ps → ⊥) → StopsAt ku kl (nodes row) i → routing row ku kl work out ≡ Err (Stuck i)
           → Answered
 
     pub answered : Answered
@@ -81,34 +82,34 @@ module _ (row : List ℕ) (ku kl : ℕ) (work out : List ℕ) where
       where
         go : (r : Option (List ℕ)) → first ku kl (nodes row) ≡ r → Answered
         go (some ps) e =
-            placed ps (first_some ku kl (nodes row) ps e) (routing-outcome ∙ ap (outcome ku kl (nodes row)) e ∙ ap Sheet (length-nodes row)) (rw e)
+            placed ps (first_some ku kl (nodes row) ps e) (routing-outcome ∙ ap (outcome ku kl (nodes row)) e ∙ ap Ok (length-nodes row)) (rw e)
         go none e =
             let n = first-none ku kl (nodes row) e in
             stuck (suc (failing ku kl (nodes row))) n (stuck-stops ku kl row whole n) (routing-outcome ∙ ap (outcome ku kl (nodes row)) e)
 
     -- a sheet exactly when some placing meets the street rules at every pin
-    pub sheet-exactly : routing row ku kl work out ≡ Sheet (length row) ↔ ((ps : List ℕ) × Placing ku kl (nodes row) ps)
+    pub sheet-exactly : routing row ku kl work out ≡ Ok (length row) ↔ ((ps : List ℕ) × Placing ku kl (nodes row) ps)
     sheet-exactly = (to answered, from answered)
       where
-        to : Answered → routing row ku kl work out ≡ Sheet (length row) → (ps : List ℕ) × Placing ku kl (nodes row) ps
+        to : Answered → routing row ku kl work out ≡ Ok (length row) → (ps : List ℕ) × Placing ku kl (nodes row) ps
         to (placed ps f a s) e = (ps, f.placing)
         to (stuck i n s a) e = let z : ◌≡◌ {A = ℕ} 0 1 = cc in absurd (omega arith)
 
-        from : Answered → (ps : List ℕ) × Placing ku kl (nodes row) ps → routing row ku kl work out ≡ Sheet (length row)
+        from : Answered → (ps : List ℕ) × Placing ku kl (nodes row) ps → routing row ku kl work out ≡ Ok (length row)
         from (placed ps f a s) p = a
         from (stuck i n s a) p = absurd (n p.0 p.1)
 
     -- 6 otherwise and only then, at the failing node
-    pub six-exactly : (i : ℕ) → routing row ku kl work out ≡ Stuck i ↔ StopsAt ku kl (nodes row) i
+    pub six-exactly : (i : ℕ) → routing row ku kl work out ≡ Err (Stuck i) ↔ StopsAt ku kl (nodes row) i
     six-exactly i = (to answered, from answered)
       where
-        to : Answered → routing row ku kl work out ≡ Stuck i → StopsAt ku kl (nodes row) i
+        to : Answered → routing row ku kl work out ≡ Err (Stuck i) → StopsAt ku kl (nodes row) i
         to (placed ps f a s) e = let z : ◌≡◌ {A = ℕ} 0 1 = cc in absurd (omega arith)
         to (stuck j n s a) e = let z : j ≡ i = cc in rw z at s
 
-        from : Answered → StopsAt ku kl (nodes row) i → routing row ku kl work out ≡ Stuck i
+        from : Answered → StopsAt ku kl (nodes row) i → routing row ku kl work out ≡ Err (Stuck i)
         from (placed ps f a s) t = absurd (stops-stuck ku kl row whole i t ps f.placing)
-        from (stuck j n s a) t = a ∙ ap Stuck (stops-unique ku kl (nodes row) j i s t)
+        from (stuck j n s a) t = a ∙ ap (λ k. Err (Stuck k)) (stops-unique ku kl (nodes row) j i s t)
 
     -- the sheet is, byte for byte, that of the first placing
     pub first-bytes : (ps : List ℕ) → IsFirst ku kl (nodes row) ps
@@ -119,7 +120,7 @@ module _ (row : List ℕ) (ku kl : ℕ) (work out : List ℕ) where
         ∙ rw (first-unique ku kl (nodes row) ps f)
 
 -- a row that gets a sheet is placed, and the sheet is that of its first placing
-pub first-placed : (row : List ℕ) (ku kl : ℕ) (work out : List ℕ) → Checked row ku kl work out → routing row ku kl work out ≡ Sheet (length row)
+pub first-placed : (row : List ℕ) (ku kl : ℕ) (work out : List ℕ) → Checked row ku kl work out → routing row ku kl work out ≡ Ok (length row)
     → (ps : List ℕ) × Placed row ku kl ps × (first_sheet row ku kl ≡ sheet ku kl (nodes row) ps)
 first-placed row ku kl work out c e = go (answered row ku kl work out c)
   where
@@ -132,7 +133,7 @@ first-placed row ku kl work out c e = go (answered row ku kl work out c)
 -- two rows that get sheets get equal ones exactly when they have equal joins and equal blanks under the same track counts
 module _ (row row' : List ℕ) (ku kl ku' kl' : ℕ) (work out work' out' : List ℕ)
     (checked : Checked row ku kl work out) (checked' : Checked row' ku' kl' work' out')
-    (got : routing row ku kl work out ≡ Sheet (length row)) (got' : routing row' ku' kl' work' out' ≡ Sheet (length row')) where
+    (got : routing row ku kl work out ≡ Ok (length row)) (got' : routing row' ku' kl' work' out' ≡ Ok (length row')) where
   pub equal-sheets : first_sheet row ku kl ≡ first_sheet row' ku' kl' ↔ (SamePins row row' × (ku ≡ ku') × (kl ≡ kl'))
   unfolding first_sheet
   equal-sheets = (to, from)

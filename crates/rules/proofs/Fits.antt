@@ -6,10 +6,12 @@ use Prim.Native.Nat.{ℕ, suc, ◌+◌, ◌-◌, ◌≤◌, ◌<◌}
 use lib.Dec.{T, leb, ltb}
 use borrow.Author.Tests.{ltb-true, ltb-false, leb-true, lt-ltb, le-ltb, le-leb}
 use native.Mathlib.Omega.{arith}
-use Rattle.rules.specs.declared.Limits.{Limits}
-use Rattle.rules.specs.declared.Limits.TheVariants.{Met, Upper, Lower, Sum}
+use Rattle.std.specs.declared.option.Option.TheVariants.{None, Some}
+use Rattle.rules.specs.Limits.{Broken}
+use Rattle.rules.specs.declared.Limit.TheVariants.{Upper, Lower, Sum}
 use Rattle.rules.specs.Basic.{pick}
-use Rattle.rules.specs.Row.{Kind, B, M, E, N}
+use Rattle.rules.specs.declared.Kind.{Kind}
+use Rattle.rules.specs.declared.Kind.TheVariants.{B, M, E, N}
 use Rattle.rules.specs.Street.{limits, blank_limits, met, fits, last, limits_at, fits_at, counted}
 
 -- a node leaves no net out of its count
@@ -29,19 +31,19 @@ pub record Fits (ku kl p b : ℕ) : Type 0 where
   pub sum : b ≤ ku + kl
 
 module _ (ku kl p b : ℕ) where
-  pub limits-upper : ku < p - 1 → limits ku kl p b ≡ Upper
+  pub limits-upper : ku < p - 1 → limits ku kl p b ≡ Some Upper
   unfolding limits pick
   limits-upper h = rw (lt-ltb ku (p - 1) h)
 
-  pub limits-lower : p - 1 ≤ ku → kl < b - p → limits ku kl p b ≡ Lower
+  pub limits-lower : p - 1 ≤ ku → kl < b - p → limits ku kl p b ≡ Some Lower
   unfolding limits pick
   limits-lower h₁ h₂ = rw (le-ltb ku (p - 1) h₁, lt-ltb kl (b - p) h₂)
 
-  pub limits-sum : p - 1 ≤ ku → b - p ≤ kl → ku + kl < b → limits ku kl p b ≡ Sum
+  pub limits-sum : p - 1 ≤ ku → b - p ≤ kl → ku + kl < b → limits ku kl p b ≡ Some Sum
   unfolding limits pick
   limits-sum h₁ h₂ h₃ = rw (le-ltb ku (p - 1) h₁, le-ltb kl (b - p) h₂, lt-ltb (ku + kl) b h₃)
 
-  pub within-met : p - 1 ≤ ku → b - p ≤ kl → b ≤ ku + kl → limits ku kl p b ≡ Met
+  pub within-met : p - 1 ≤ ku → b - p ≤ kl → b ≤ ku + kl → limits ku kl p b ≡ None
   unfolding limits pick
   within-met h₁ h₂ h₃ = rw (le-ltb ku (p - 1) h₁, le-ltb kl (b - p) h₂, le-ltb (ku + kl) b h₃)
 
@@ -50,17 +52,17 @@ module _ (ku kl p b : ℕ) where
   test-within t = go (ltb ku (p - 1)) (ltb kl (b - p)) (ltb (ku + kl) b) refl refl refl t
     where
       go : (u l s : Bool) → ltb ku (p - 1) ≡ u → ltb kl (b - p) ≡ l → ltb (ku + kl) b ≡ s →
-          T (met (pick u Upper (pick l Lower (pick s Sum Met)))) → (p - 1 ≤ ku) × (b - p ≤ kl) × (b ≤ ku + kl)
+          T (met (pick u (Some Upper) (pick l (Some Lower) (pick s (Some Sum) None)))) → (p - 1 ≤ ku) × (b - p ≤ kl) × (b ≤ ku + kl)
       go true l s eu el es t = absurd t
       go false true s eu el es t = absurd t
       go false false true eu el es t = absurd t
       go false false false eu el es t = omega (arith, ltb-false)
 
-  pub met-within : limits ku kl p b ≡ Met → (p - 1 ≤ ku) × (b - p ≤ kl) × (b ≤ ku + kl)
+  pub met-within : limits ku kl p b ≡ None → (p - 1 ≤ ku) × (b - p ≤ kl) × (b ≤ ku + kl)
   unfolding met
   met-within e = test-within (rw e tt)
 
-  pub limits-met : limits ku kl p b ≡ Met ↔ ((p - 1 ≤ ku) × (b - p ≤ kl) × (b ≤ ku + kl))
+  pub limits-met : limits ku kl p b ≡ None ↔ ((p - 1 ≤ ku) × (b - p ≤ kl) × (b ≤ ku + kl))
   limits-met = (met-within, λ h. within-met h.0 h.1 h.2)
 
   -- where the upper and the lower limit hold, the sum is broken at one p of one b only
@@ -68,13 +70,13 @@ module _ (ku kl p b : ℕ) where
   sum-broken h₁ h₂ h₃ = (omega arith, omega arith)
 
   -- so that limits names it there and nowhere else
-  pub limits-sum-at : limits ku kl p b ≡ Sum ↔ ((p ≡ suc ku) × (b ≡ suc (ku + kl)))
+  pub limits-sum-at : limits ku kl p b ≡ Some Sum ↔ ((p ≡ suc ku) × (b ≡ suc (ku + kl)))
   unfolding limits pick
   limits-sum-at =
       (λ e. go (ltb ku (p - 1)) (ltb kl (b - p)) (ltb (ku + kl) b) refl refl refl e, λ h. limits-sum (omega (arith, h)) (omega (arith, h)) (omega (arith, h)))
     where
       go : (u l s : Bool) → ltb ku (p - 1) ≡ u → ltb kl (b - p) ≡ l → ltb (ku + kl) b ≡ s →
-          pick u Upper (pick l Lower (pick s Sum Met)) ≡ Sum → (p ≡ suc ku) × (b ≡ suc (ku + kl))
+          pick u (Some Upper) (pick l (Some Lower) (pick s (Some Sum) None)) ≡ Some Sum → (p ≡ suc ku) × (b ≡ suc (ku + kl))
       go true l s eu el es e = let z : ◌≡◌ {A = ℕ} 0 1 = cc in absurd (omega arith)
       go false true s eu el es e = let z : ◌≡◌ {A = ℕ} 0 1 = cc in absurd (omega arith)
       go false false false eu el es e = let z : ◌≡◌ {A = ℕ} 0 1 = cc in absurd (omega arith)
@@ -100,23 +102,23 @@ split-within h g = omega arith
 
 -- the limits at a blank with s wires above
 module _ (ku kl s b : ℕ) where
-  pub blank-upper : ku < s → blank_limits ku kl s b ≡ Upper
+  pub blank-upper : ku < s → blank_limits ku kl s b ≡ Some Upper
   unfolding blank_limits pick
   blank-upper h = rw (lt-ltb ku s h)
 
-  pub blank-lower : s ≤ ku → kl < b - s → blank_limits ku kl s b ≡ Lower
+  pub blank-lower : s ≤ ku → kl < b - s → blank_limits ku kl s b ≡ Some Lower
   unfolding blank_limits pick
   blank-lower h₁ h₂ = rw (le-ltb ku s h₁, lt-ltb kl (b - s) h₂)
 
-  pub blank-met : s ≤ ku → b - s ≤ kl → blank_limits ku kl s b ≡ Met
+  pub blank-met : s ≤ ku → b - s ≤ kl → blank_limits ku kl s b ≡ None
   unfolding blank_limits pick
   blank-met h₁ h₂ = rw (le-ltb ku s h₁, le-ltb kl (b - s) h₂)
 
-  pub met-blank : blank_limits ku kl s b ≡ Met → (s ≤ ku) × (b - s ≤ kl)
+  pub met-blank : blank_limits ku kl s b ≡ None → (s ≤ ku) × (b - s ≤ kl)
   unfolding blank_limits pick
   met-blank e = go (ltb ku s) (ltb kl (b - s)) refl refl e
     where
-      go : (u l : Bool) → ltb ku s ≡ u → ltb kl (b - s) ≡ l → pick u Upper (pick l Lower Met) ≡ Met → (s ≤ ku) × (b - s ≤ kl)
+      go : (u l : Bool) → ltb ku s ≡ u → ltb kl (b - s) ≡ l → pick u (Some Upper) (pick l (Some Lower) None) ≡ None → (s ≤ ku) × (b - s ≤ kl)
       go true l eu el e = let z : ◌≡◌ {A = ℕ} 0 1 = cc in absurd (omega arith)
       go false true eu el e = let z : ◌≡◌ {A = ℕ} 0 1 = cc in absurd (omega arith)
       go false false eu el e = omega (arith, ltb-false)
@@ -130,14 +132,14 @@ pub record FitsAt (k : Kind) (ku kl p b : ℕ) : Type 0 where
   pub sum : b ≤ ku + kl
 
 module _ (ku kl p b : ℕ) where
-  pub met_at : (k : Kind) → 1 ≤ p → limits_at k ku kl p b ≡ Met → (p - 1 ≤ ku) × (last k b - p ≤ kl) × (b ≤ ku + kl)
+  pub met_at : (k : Kind) → 1 ≤ p → limits_at k ku kl p b ≡ None → (p - 1 ≤ ku) × (last k b - p ≤ kl) × (b ≤ ku + kl)
   unfolding limits_at last
   met_at B l e = met-within ku kl p b e
   met_at M l e = met-within ku kl p b e
   met_at E l e = met-within ku kl p b e
   met_at N l e = omega (arith, met-blank ku kl (p - 1) b e)
 
-  pub at-met : (k : Kind) → FitsAt k ku kl p b → limits_at k ku kl p b ≡ Met
+  pub at-met : (k : Kind) → FitsAt k ku kl p b → limits_at k ku kl p b ≡ None
   unfolding limits_at last
   at-met B f = within-met ku kl p b f.upper f.lower f.sum
   at-met M f = within-met ku kl p b f.upper f.lower f.sum
@@ -148,11 +150,11 @@ module _ (ku kl p b : ℕ) where
   unfolding fits_at met
   fits_at→ k t = go (leb 1 p) (leb p (last k b)) (limits_at k ku kl p b) refl refl refl t
     where
-      go : (l h : Bool) (m : Limits) → leb 1 p ≡ l → leb p (last k b) ≡ h → limits_at k ku kl p b ≡ m → T (l && h && met m) → FitsAt k ku kl p b
-      go true true Met el eh em t = omega (arith, leb-true, met_at k (leb-true 1 p el) em)
-      go true true Upper el eh em t = absurd t
-      go true true Lower el eh em t = absurd t
-      go true true Sum el eh em t = absurd t
+      go : (l h : Bool) (m : Broken) → leb 1 p ≡ l → leb p (last k b) ≡ h → limits_at k ku kl p b ≡ m → T (l && h && met m) → FitsAt k ku kl p b
+      go true true None el eh em t = omega (arith, leb-true, met_at k (leb-true 1 p el) em)
+      go true true (Some Upper) el eh em t = absurd t
+      go true true (Some Lower) el eh em t = absurd t
+      go true true (Some Sum) el eh em t = absurd t
       go true false m el eh em t = absurd t
       go false h m el eh em t = absurd t
 

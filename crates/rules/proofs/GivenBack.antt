@@ -14,7 +14,9 @@ use lib.Seq.{get_or-append_seam, drop-append-add}
 use lib.Dec.{T, eqb, eqb_refl}
 use borrow.Author.Tests.{eqb-true, eq-eqb, ne_eqb, lt-ltb, le-ltb}
 use Rattle.rules.specs.Basic.{pick, tabulate}
-use Rattle.rules.specs.Row.{before, has, blank, home, later, lone, Kind, B, M, E, N, Node, node, node_at, nodes, kind_of}
+use Rattle.rules.specs.declared.Kind.{Kind}
+use Rattle.rules.specs.declared.Kind.TheVariants.{B, M, E, N}
+use Rattle.rules.specs.Row.{before, has, blank, home, later, lone, Node, node, node_at, nodes, kind_of}
 use Rattle.rules.specs.Street.{last, counted, stands, next, kind, run, empty, Placing}
 use Rattle.rules.specs.Sheet.{kind_in, Entry, entry, begun, begun_by, net_at, nets, label}
 use Rattle.rules.specs.Judgement.{left}

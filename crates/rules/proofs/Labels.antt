@@ -12,7 +12,8 @@ use lib.ListN.{length, get_or, length-map}
 use lib.Dec.{eqb, ltb}
 use borrow.Author.Tests.{eqb-true, eqb-false, eq-eqb, ne_eqb, ltb-true, lt-ltb, le-ltb}
 use Rattle.rules.specs.Basic.{pick, tabulate}
-use Rattle.rules.specs.Row.{before, blank, joined, home, later, N, Node, node, node_at, nodes, kind_of}
+use Rattle.rules.specs.declared.Kind.TheVariants.{N}
+use Rattle.rules.specs.Row.{before, blank, joined, home, later, Node, node, node_at, nodes, kind_of}
 use Rattle.rules.specs.Street.{kind}
 use Rattle.rules.specs.Bits.{Below}
 use Rattle.rules.specs.Sheet.{code, kind_in, entries, begun, begun_by, nets_of, pins_of, label, row_of, sheet, Placed, SheetOf}

@@ -8,12 +8,15 @@ use native.Mathlib.Omega.{arith}
 use lib.ListN.{length, get_or}
 use lib.Dec.{T, eqb, leb, eqb→eq}
 use borrow.Author.Tests.{leb-false, lt-leb}
-use Rattle.rules.specs.declared.Limits.{Limits}
-use Rattle.rules.specs.declared.Limits.TheVariants.{Met, Upper, Lower, Sum}
+use Rattle.std.specs.declared.option.Option.TheVariants.{None, Some}
+use Rattle.rules.specs.Limits.{Broken}
+use Rattle.rules.specs.declared.Limit.TheVariants.{Upper, Lower, Sum}
 use Rattle.rules.specs.declared.Fault.{Fault}
 use Rattle.rules.specs.declared.Fault.TheVariants.{Position}
 use Rattle.rules.specs.Basic.{keep, or_else}
-use Rattle.rules.specs.Row.{before, Kind, B, M, E, N, Node, node}
+use Rattle.rules.specs.declared.Kind.{Kind}
+use Rattle.rules.specs.declared.Kind.TheVariants.{B, M, E, N}
+use Rattle.rules.specs.Row.{before, Node, node}
 use Rattle.rules.specs.Street.{last, limits_at, counted, stands, next, kind, run}
 use Rattle.rules.specs.Sheet.{code, kind_in, Entry, entry, entries}
 use Rattle.rules.specs.Judgement.{broken, fault_at, left, scan, left_open}
@@ -48,13 +51,13 @@ module _ (ku kl : ℕ) where
       c : ℕ
       c = counted k b
 
-      go : (p : Bool) (l : Limits) → leb (last k c) a ≡ p → limits_at k ku kl (suc a) c ≡ l
+      go : (p : Bool) (l : Broken) → leb (last k c) a ≡ p → limits_at k ku kl (suc a) c ≡ l
           → or_else (keep p (Position i)) (broken l i) ≡ none → FitsAt k ku kl (suc a) c
       go true l ep el e = let z : ◌≡◌ {A = ℕ} 0 1 = cc in absurd (omega arith)
-      go false Met ep el e = omega (arith, leb-false (last k c) a ep, met_at ku kl (suc a) c k (omega arith) el)
-      go false Upper ep el e = let z : ◌≡◌ {A = ℕ} 0 1 = cc in absurd (omega arith)
-      go false Lower ep el e = let z : ◌≡◌ {A = ℕ} 0 1 = cc in absurd (omega arith)
-      go false Sum ep el e = let z : ◌≡◌ {A = ℕ} 0 1 = cc in absurd (omega arith)
+      go false None ep el e = omega (arith, leb-false (last k c) a ep, met_at ku kl (suc a) c k (omega arith) el)
+      go false (Some Upper) ep el e = let z : ◌≡◌ {A = ℕ} 0 1 = cc in absurd (omega arith)
+      go false (Some Lower) ep el e = let z : ◌≡◌ {A = ℕ} 0 1 = cc in absurd (omega arith)
+      go false (Some Sum) ep el e = let z : ◌≡◌ {A = ℕ} 0 1 = cc in absurd (omega arith)
 
   pub fits-clear : (i b f a : ℕ) → FitsAt (kind_in f) ku kl (suc a) (counted (kind_in f) b) → fault_at ku kl i b (entry f a) ≡ none
   unfolding fault_at or_else keep broken

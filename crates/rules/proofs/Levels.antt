@@ -2,7 +2,8 @@
 use mathlib.Core.Path.{◌≡◌, refl}
 use Prim.Native.Nat.{ℕ, suc, ◌+◌, ◌≤◌, min}
 use native.Mathlib.Omega.{arith}
-use Rattle.rules.specs.Row.{Kind, B, M, E, N}
+use Rattle.rules.specs.declared.Kind.{Kind}
+use Rattle.rules.specs.declared.Kind.TheVariants.{B, M, E, N}
 use Rattle.rules.specs.Street.{last}
 use Rattle.rules.specs.Film.{upper, upper_at}
 use Rattle.rules.proofs.Fits.{FitsAt}

@@ -12,7 +12,8 @@ use lib.Seq.{get_or-drop}
 use lib.Dec.{T, eqb, eqb→eq}
 use borrow.Author.Tests.{eqb-true, eqb-false, eq-eqb, ne_eqb, ltb-true, lt-ltb}
 use Rattle.rules.specs.Basic.{pick, put, cut, tabulate, keep, and_then}
-use Rattle.rules.specs.Row.{before, has, blank, home, later, lone, N, Node, node, node_at, nodes, kind_of}
+use Rattle.rules.specs.declared.Kind.TheVariants.{N}
+use Rattle.rules.specs.Row.{before, has, blank, home, later, lone, Node, node, node_at, nodes, kind_of}
 use Rattle.rules.specs.Street.{step, run, stands, last, fits_at, counted, kind, next}
 use Rattle.rules.proofs.Fits.{FitsAt, fits_at→}
 use Rattle.rules.proofs.Pins.{at_before, before-found, label-home}

@@ -11,7 +11,9 @@ use lib.Seq.{get_or-drop}
 use lib.Dec.{eqb, ltb}
 use borrow.Author.Tests.{eqb-true, eqb-false, eq-eqb, ne_eqb}
 use Rattle.rules.specs.Basic.{pick, tabulate, least, settle}
-use Rattle.rules.specs.Row.{before, has, blank, joined, home, later, Kind, B, M, E, N, Node, node, node_at, nodes, kind_of, lone, SamePins}
+use Rattle.rules.specs.declared.Kind.{Kind}
+use Rattle.rules.specs.declared.Kind.TheVariants.{B, M, E, N}
+use Rattle.rules.specs.Row.{before, has, blank, joined, home, later, Node, node, node_at, nodes, kind_of, lone, SamePins}
 use Rattle.rules.specs.Street.{kind, first}
 use Rattle.rules.specs.Sheet.{sheet}
 use Rattle.rules.specs.Answers.{routing, first_lone, refusal, outcome, first_sheet}

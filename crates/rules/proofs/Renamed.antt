@@ -8,7 +8,9 @@ use lib.ListN.{length, get_or}
 use lib.Dec.{eqb}
 use borrow.Author.Tests.{eqb-true, eqb-false, eq-eqb, ne_eqb}
 use Rattle.rules.specs.Basic.{pick, put, cut}
-use Rattle.rules.specs.Row.{before, Kind, B, M, E, N, node}
+use Rattle.rules.specs.declared.Kind.{Kind}
+use Rattle.rules.specs.declared.Kind.TheVariants.{B, M, E, N}
+use Rattle.rules.specs.Row.{before, node}
 use Rattle.rules.specs.Street.{next}
 use Rattle.rules.proofs.Pins.{at_before}
 

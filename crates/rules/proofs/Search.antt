@@ -9,7 +9,9 @@ use lib.ListN.{length}
 use native.Mathlib.Nat.{eq-or-lt_of_le}
 use native.Mathlib.Omega.{arith}
 use Rattle.rules.specs.Basic.{keep, and_then, or_else}
-use Rattle.rules.specs.Row.{Kind, B, M, E, N, Node}
+use Rattle.rules.specs.declared.Kind.{Kind}
+use Rattle.rules.specs.declared.Kind.TheVariants.{B, M, E, N}
+use Rattle.rules.specs.Row.{Node}
 use Rattle.rules.specs.Street.{step, run, last, counted, kind, Placing, Earlier, here, there, IsFirst}
 use Rattle.rules.specs.Street.{first_from, also, way, empty, first}
 use Rattle.rules.proofs.Earlier.{earlier-asymmetric}

@@ -14,7 +14,9 @@ use lib.Seq.{length-take-le, get_or-take}
 use lib.Dec.{eqb}
 use borrow.Author.Tests.{eqb-true, eqb-false, eq-eqb, ne_eqb}
 use Rattle.rules.specs.Basic.{pick, tabulate, keep, and_then}
-use Rattle.rules.specs.Row.{before, has, blank, home, later, B, M, E, N, Kind, Node, node, node_at, nodes}
+use Rattle.rules.specs.declared.Kind.{Kind}
+use Rattle.rules.specs.declared.Kind.TheVariants.{B, M, E, N}
+use Rattle.rules.specs.Row.{before, has, blank, home, later, Node, node, node_at, nodes}
 use Rattle.rules.specs.Street.{fits_at, counted, kind, stands, next, step, run, IsFirst, Passes, StopsAt}
 use Rattle.rules.proofs.Pins.{length-tabulate, tabulate-cong, map-tabulate, unjoined, blank-node}
 use Rattle.rules.proofs.Open.{one, one-other, times}

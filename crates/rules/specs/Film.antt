@@ -5,7 +5,8 @@
 -- u is given by request 3 of document 02.
 use Rattle.std.specs.Prelude.{Bool, true, false, List, [], ◌∷◌, ◌++◌, ℕ, suc, ◌+◌, ◌-◌, ◌*◌, min, max, get_or, leb, ltb}
 use Rattle.rules.specs.Basic.{pick, put, cut}
-use Rattle.rules.specs.Row.{Kind, B, M, E, N}
+use Rattle.rules.specs.declared.Kind.{Kind}
+use Rattle.rules.specs.declared.Kind.TheVariants.{B, M, E, N}
 use Rattle.rules.specs.Bits.{digits, bytes}
 use Rattle.rules.specs.Sheet.{kind_in, begun, Entry, entry, upper_of, entries_of}
 

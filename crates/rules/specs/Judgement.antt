@@ -1,13 +1,12 @@
 -- Document 01, 'When the software says no', 11 to 19, with request 6's 30 and 31 and request 1's blanks and 23: the judgement of a sheet, in five parts that stand in order.
-use Rattle.std.specs.Prelude.{Bool, not, ◌||◌, List, [], ◌∷◌, ℕ, suc, ◌-◌, length, leb, ltb, eqb}
+use Rattle.std.specs.Prelude.{Bool, not, ◌||◌, List, [], ◌∷◌, ℕ, suc, ◌-◌, length, leb, ltb, eqb, None, Some}
 use Rattle.std.proofs.Math.Option.{Option, none, some}
-use Rattle.rules.specs.declared.Limits.{Limits}
-use Rattle.rules.specs.declared.Limits.TheVariants.{Met, Upper, Lower, Sum}
 use Rattle.rules.specs.declared.Fault.{Fault}
 use Rattle.rules.specs.declared.Fault.TheVariants.{Head, Tracks, Length, Position, Street, Open, Padding, Nets}
 use Rattle.rules.specs.Basic.{keep, or_else}
-use Rattle.rules.specs.Row.{Kind, B, M, E, N}
-use Rattle.rules.specs.Street.{counted, last, limits_at}
+use Rattle.rules.specs.declared.Kind.{Kind}
+use Rattle.rules.specs.declared.Kind.TheVariants.{B, M, E, N}
+use Rattle.rules.specs.Limits.{Broken, last, limits_at, counted}
 use Rattle.rules.specs.Sheet.{takes, kind_in, size, Entry, entry, upper_of, lower_of, count_of, entries_of, padding_of, nets_of}
 
 -- 1 and 11: a node count that is not 2 to 512
@@ -25,11 +24,9 @@ unfoldable pub room : List ℕ → List ℕ → Bool
 room s row = ltb (length row) (count_of s)
 
 -- 17, 30, 31 at node i, from 1: the limit that is broken there
-unfoldable pub broken : Limits → ℕ → Option Fault
-broken Met i = none
-broken Upper i = some (Street Upper i)
-broken Lower i = some (Street Lower i)
-broken Sum i = some (Street Sum i)
+unfoldable pub broken : Broken → ℕ → Option Fault
+broken None i = none
+broken (Some l) i = some (Street l i)
 
 -- 16, 17, 30, 31 at node i, from 1, with b nets open before it
 unfoldable pub fault_at : (ku kl i b : ℕ) → Entry → Option Fault

@@ -1,5 +1,6 @@
 pub mod Basic
 pub mod Row
+pub mod Limits
 pub mod Street
 pub mod Bits
 pub mod Sheet

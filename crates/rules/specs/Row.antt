@@ -3,6 +3,8 @@
 -- A row is a list of labels, one byte a node. Document 01 counts nodes from 1; here node i is the one with i before it, and answers give i + 1.
 use Rattle.std.specs.Prelude.{◌≡◌, Bool, true, false, not, ◌&&◌, List, [], ◌∷◌, ℕ, suc, ◌<◌, length, get_or, drop, eqb, ltb}
 use Rattle.rules.specs.Basic.{pick, tabulate}
+use Rattle.rules.specs.declared.Kind.{Kind}
+use Rattle.rules.specs.declared.Kind.TheVariants.{B, M, E, N}
 
 -- how many stand before the first x of a list; all, where x is not in it
 unfoldable pub before : ℕ → List ℕ → ℕ
@@ -28,10 +30,6 @@ home row i = before (get_or row i 0) row
 -- a later node is in node i's net
 unfoldable pub later : List ℕ → ℕ → Bool
 later row i = has (get_or row i 0) (drop (suc i) row)
-
--- kinds: a net's first node is B, its last E, others M; a blank is N
-pub data Kind : Type 0 where
-  B M E N : Kind
 
 -- a node: its kind and its net; a blank, which has none, is known by itself
 pub data Node : Type 0 where

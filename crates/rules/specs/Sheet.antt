@@ -4,7 +4,9 @@
 use Rattle.std.specs.Prelude.{◌≡◌, Bool, false, ◌&&◌, List, [], ◌∷◌, ◌++◌, map, ℕ, zero, suc, ◌+◌, ◌-◌, ◌*◌, ◌/◌, ◌≤◌, ◌<◌, length, get_or, drop, leb}
 use Rattle.std.proofs.Math.Option.{Option, none, some}
 use Rattle.rules.specs.Basic.{tabulate}
-use Rattle.rules.specs.Row.{Kind, B, M, E, N, Node, node, nodes, lone}
+use Rattle.rules.specs.declared.Kind.{Kind}
+use Rattle.rules.specs.declared.Kind.TheVariants.{B, M, E, N}
+use Rattle.rules.specs.Row.{Node, node, nodes, lone}
 use Rattle.rules.specs.Street.{kind, next, Placing}
 use Rattle.rules.specs.Bits.{digits, val, bits, bytes, field}
 

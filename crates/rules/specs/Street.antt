@@ -1,56 +1,14 @@
--- Document 01, 'Street rules', with request 1's blanks: orders, limits, placings, reading order, the first placing, the failing node.
+-- Document 01, 'Street rules', with request 1's blanks: orders, placings, reading order, the first placing, the failing node.
 --
 -- An order lists the open nets from top to bottom. Positions p count from 1, the top. "Placing", "reading order" and
 -- "first placing" are document 01's own terms.
-use Rattle.std.specs.Prelude.{◌≡◌, Bool, true, false, ◌&&◌, List, [], ◌∷◌, ◌⊎◌, ℕ, zero, suc, ◌+◌, ◌-◌, ◌≤◌, ◌<◌, length, take, leb, eqb, ltb}
+use Rattle.std.specs.Prelude.{◌≡◌, Bool, true, false, ◌&&◌, List, [], ◌∷◌, ◌⊎◌, ℕ, zero, suc, ◌-◌, ◌≤◌, ◌<◌, length, take, eqb}
 use Rattle.std.proofs.Math.Option.{Option, none, some}
-use Rattle.rules.specs.declared.Limits.{Limits}
-use Rattle.rules.specs.declared.Limits.TheVariants.{Met, Upper, Lower, Sum}
-use Rattle.rules.specs.Basic.{pick, least, put, cut, keep, and_then, or_else, is_none}
-use Rattle.rules.specs.Row.{before, Kind, B, M, E, N, Node, node}
-
--- the first of the three limits that the wire at position p of b breaks, or Met: p − 1 ≤ Ku, b − p ≤ Kl, b ≤ Ku + Kl
-unfoldable pub limits : (ku kl p b : ℕ) → Limits
-limits ku kl p b = pick (ltb ku (p - 1)) Upper (pick (ltb kl (b - p)) Lower (pick (ltb (ku + kl) b) Sum Met))
-
-unfoldable pub met : Limits → Bool
-met Met = true
-met Upper = false
-met Lower = false
-met Sum = false
-
--- p is a position of b, and the limits hold there
-unfoldable pub fits : (ku kl p b : ℕ) → Bool
-fits ku kl p b = leb 1 p && leb p b && met (limits ku kl p b)
-
--- the first limit that a blank with s of b wires above it breaks, or Met: s ≤ Ku, b − s ≤ Kl
-unfoldable pub blank_limits : (ku kl s b : ℕ) → Limits
-blank_limits ku kl s b = pick (ltb ku s) Upper (pick (ltb kl (b - s)) Lower Met)
-
--- the positions at a node of a kind with b open nets are 1 to the last; a blank stands below s of them, at position s + 1
-unfoldable pub last : Kind → ℕ → ℕ
-last B b = b
-last M b = b
-last E b = b
-last N b = suc b
-
--- the first limit that a node of a kind at position p of b breaks, or Met
-unfoldable pub limits_at : Kind → (ku kl p b : ℕ) → Limits
-limits_at B ku kl p b = limits ku kl p b
-limits_at M ku kl p b = limits ku kl p b
-limits_at E ku kl p b = limits ku kl p b
-limits_at N ku kl p b = blank_limits ku kl (p - 1) b
-
--- p is a position there, and the limits hold
-unfoldable pub fits_at : Kind → (ku kl p b : ℕ) → Bool
-fits_at k ku kl p b = leb 1 p && leb p (last k b) && met (limits_at k ku kl p b)
-
--- b: the open nets at a node, with its own if it has one, where so many were open before it
-unfoldable pub counted : Kind → ℕ → ℕ
-counted B b = suc b
-counted M b = b
-counted E b = b
-counted N b = b
+use Rattle.rules.specs.Basic.{least, put, cut, keep, and_then, or_else, is_none}
+use Rattle.rules.specs.declared.Kind.{Kind}
+use Rattle.rules.specs.declared.Kind.TheVariants.{B, M, E, N}
+use Rattle.rules.specs.Row.{before, Node, node}
+unfoldable pub use Rattle.rules.specs.Limits.{limits, met, fits, blank_limits, last, limits_at, fits_at, counted}
 
 -- a new net may be put anywhere, and a blank may have any number of wires above; another net stands where the order has it
 unfoldable pub stands : Node → List ℕ → ℕ → Bool

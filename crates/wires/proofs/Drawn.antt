@@ -9,7 +9,8 @@ use native.Mathlib.Omega.{arith}
 use lib.ListN.{length, get_or, length-map}
 use lib.Dec.{eqb}
 use Rattle.rules.specs.Basic.{put, cut}
-use Rattle.rules.specs.Row.{Kind, B, M, E, N}
+use Rattle.rules.specs.declared.Kind.{Kind}
+use Rattle.rules.specs.declared.Kind.TheVariants.{B, M, E, N}
 use Rattle.rules.specs.Street.{last, counted, next}
 use Rattle.rules.specs.Sheet.{kind_in, Entry, entry, begun, net_at, nets}
 use Rattle.rules.specs.Judgement.{left}

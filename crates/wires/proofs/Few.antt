@@ -9,7 +9,8 @@ use lib.ListN.{length, get_or, length-append}
 use lib.Dec.{ltb}
 use borrow.Author.Tests.{le-ltb}
 use Rattle.rules.specs.Basic.{pick}
-use Rattle.rules.specs.Row.{Kind, B, M, E, N}
+use Rattle.rules.specs.declared.Kind.{Kind}
+use Rattle.rules.specs.declared.Kind.TheVariants.{B, M, E, N}
 use Rattle.rules.specs.Street.{last, counted}
 use Rattle.rules.specs.Sheet.{kind_in, Entry, begun, upper_of, lower_of, count_of}
 use Rattle.rules.specs.Judgement.{left, judge}

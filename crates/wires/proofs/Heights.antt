@@ -8,7 +8,8 @@ use lib.ListN.{length, get_or}
 use lib.Dec.{ltb}
 use borrow.Author.Tests.{le-leb, lt-leb, lt-ltb, le-ltb}
 use Rattle.rules.specs.Basic.{pick, put, cut}
-use Rattle.rules.specs.Row.{Kind, B, M, E, N}
+use Rattle.rules.specs.declared.Kind.{Kind}
+use Rattle.rules.specs.declared.Kind.TheVariants.{B, M, E, N}
 use Rattle.rules.specs.Street.{last, counted}
 use Rattle.rules.specs.Film.{Wire, axis, upper, upper_at, height_at, target, opened}
 use Rattle.rules.proofs.Fits.{FitsAt, Wired}

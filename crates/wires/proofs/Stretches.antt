@@ -12,7 +12,9 @@ use lib.ListN.{length, get_or}
 use lib.Dec.{eqb}
 use borrow.Author.Tests.{le-leb, lt-leb, lt-ltb, le-ltb, eqb-true, eqb-false}
 use Rattle.rules.specs.Basic.{pick, put, keep}
-use Rattle.rules.specs.Row.{before, has, Kind, B, M, E, N}
+use Rattle.rules.specs.declared.Kind.{Kind}
+use Rattle.rules.specs.declared.Kind.TheVariants.{B, M, E, N}
+use Rattle.rules.specs.Row.{before, has}
 use Rattle.rules.specs.Street.{last, counted, next}
 use Rattle.rules.specs.Sheet.{kind_in, Entry, entry, begun}
 use Rattle.rules.specs.Film.{Rec, across, Wire, axis, upper_at, height_at, target, ran, wall, bent, climb, sink, gap, opened, closed, marks, draw}

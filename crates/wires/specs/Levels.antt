@@ -5,7 +5,9 @@ use Rattle.std.specs.Prelude.{◌≡◌, Bool, ◌≢◌, ◌↔◌, ℕ, suc, �
 use mathlib.Core.List.{List, [], ◌∷◌, Memᴰ}
 use Rattle.std.proofs.Math.Option.{Option, none, some}
 use Rattle.rules.specs.Basic.{pick, put, keep}
-use Rattle.rules.specs.Row.{before, has, Kind, B, M, E, N, node}
+use Rattle.rules.specs.declared.Kind.{Kind}
+use Rattle.rules.specs.declared.Kind.TheVariants.{B, M, E, N}
+use Rattle.rules.specs.Row.{before, has, node}
 use Rattle.rules.specs.Street.{next}
 use Rattle.rules.specs.Sheet.{kind_in, Entry, entry, begun, nets}
 use Rattle.rules.specs.Film.{Rec, across, upright, axis, upper_at, height_at}
