@@ -1,7 +1,7 @@
 -- A field of up to 16 bits is cut out of, or patched into, the 24 bits from the byte that holds its first bit.
 use mathlib.Core.Path.{◌≡◌, refl, sym, ap, ap₂, ◌∙◌}
 use Prim.Native.Nat.{ℕ, zero, suc, ◌+◌, ◌-◌, ◌*◌, ◌/◌, ◌%◌, ◌^◌, ◌≤◌, ◌<◌}
-use native.Mathlib.Nat.{mod-lt, add_assoc, add-zero}
+use native.Mathlib.Nat.{mod-lt, mod-eq_of_lt, add_assoc, add-zero}
 use native.Mathlib.Numerals.{add-one}
 use native.Mathlib.Omega.{arith}
 use mathlib.Core.List.{List, [], ◌∷◌, ◌++◌, append_assoc, append-nil}
@@ -9,7 +9,9 @@ use lib.ListN.{length, get_or, take, drop, set, length-append, length-drop, take
 use lib.Seq.{take_at, take-append-le, drop-append-le, take-append-add, drop-append-add, length-take-le, take-append_seam, get_or-drop, drop-drop, take_all, sets, sets-eq, length-sets, paste, length-paste}
 use lib.Arith.{digits_lt}
 use lib.Bits.{bit_and, and_mask}
-use lib.Pow.{pow_pos, pow-add, shr_lt}
+use lib.Pow.{pow_pos, pow-add, pow-lt, shr_lt}
+use borrow.Rule.Slice.PartMut.{put_mid}
+use Rattle.std.proofs.lemmas.Slice.{put_mid-paste}
 use Rattle.rules.specs.Bits.{bits, digits, val, pack, field}
 use Rattle.rules.proofs.Fields.{length_digits, length-pack, val-digits-mod, digits-rest, digits-join, digits-split, take-digits, drop-digits, pack-append, take-pack, drop-pack}
 use Rattle.bits.specs.Access.{Inside, Put}
@@ -51,6 +53,13 @@ sets-three l i a b c e₁ e₂ e₃ =
     e₃ ∙ ap₂ (λ (r : List ℕ) (k : ℕ). set r k c) (e₂ ∙ ap₂ (λ (r : List ℕ) (k : ℕ). set r k b) e₁ (add-one i)) two
 
 -- ---- a mask of n ones keeps the low n bits
+
+-- a power of two as a shift in 32 bits gives it
+pub shifted : (n : ℕ) → n ≤ 24 → 1 * 2 ^ n % 4294967296 ≡ 2 ^ n
+shifted n h =
+    let below : 2 ^ n < 2 ^ 32 = pow-lt {i = n} {j = 32} (omega arith) in
+    let fits : 1 * 2 ^ n < 4294967296 = omega arith in
+    omega (arith, mod-eq_of_lt fits)
 
 pub masked : (x n : ℕ) {p : ℕ} → p ≡ 2 ^ n → bit_and x (p - 1) ≡ x % 2 ^ n
 masked x n e = ap (λ (m : ℕ). bit_and x (m - 1)) e ∙ and_mask x n
@@ -235,8 +244,8 @@ three-laid s i x h =
     (ap₂ (λ (a b : List ℕ). a ++ b) (ap₂ (λ (a b : List ℕ). a ++ b) (sym (take-pack 8 i s)) (bits-bytes_of x))
     (sym (drop-pack 8 (i + 3) s) ∙ ap (λ (k : ℕ). drop k (bits s)) end))
 
-pub three-put : (s : List ℕ) (i x : ℕ) → i + 3 ≤ length s
-    → Put s (8 * i) 24 x (set (set (set s i (x / 65536)) (i + 1) (x / 256 % 256)) (i + 2) (x % 256))
-three-put s i x h =
-    let stored : set (set (set s i (x / 65536)) (i + 1) (x / 256 % 256)) (i + 2) (x % 256) ≡ sets s i (bytes_of x) = sets-three s i (x / 65536) (x / 256 % 256) (x % 256) refl refl refl in
+pub three-put : (s cells : List ℕ) (i x : ℕ) → i + 3 ≤ length s → cells ≡ bytes_of x → Put s (8 * i) 24 x (put_mid i (i + 3 - i) s cells)
+three-put s cells i x h e =
+    let three : 3 ≡ i + 3 - i = omega arith in
+    let stored : put_mid i (i + 3 - i) s cells ≡ sets s i (bytes_of x) = put_mid-paste i (i + 3 - i) s cells (bytes_of x) 3 e three refl ∙ sym (sets-eq (bytes_of x) s i h) in
     record { laid = ap bits stored ∙ three-laid s i x h; kept = ap length stored ∙ length-sets s i (bytes_of x) }

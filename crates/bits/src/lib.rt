@@ -33,9 +33,8 @@ pub fn put_three(buf: &mut [u8], i: usize, x: u32)
     requires x_bound { x < 2 ^ 24 }
     ensures { Put buf.old (8 * i) 24 x buf.new }
 {
-    buf[i] = (x / 65536) as u8;
-    buf[i + 1] = (x / 256 % 256) as u8;
-    buf[i + 2] = (x % 256) as u8;
+    let [_, first, second, third] = x.to_be_bytes();
+    buf[i..i + 3].copy_from_slice(&[first, second, third]);
 }
 
 // The `width` bits of the number that stand above its low `after` bits.
@@ -43,7 +42,7 @@ fn cut(x: u32, after: usize, width: usize) -> u16
     requires { (after ≤ 24) × (width ≤ 16) }
     ensures { (result ≡ x / 2 ^ after % 2 ^ width) × (result < 2 ^ width) }
 {
-    ((x >> after) & (power(width) - 1)) as u16
+    ((x >> after) & ((1 << width) - 1)) as u16
 }
 
 // The number below 2^24 with `value` as the `width` bits above its low `after` bits.
@@ -52,16 +51,8 @@ fn patch(x: u32, after: usize, width: usize, value: u16) -> u32
     ensures { (result ≡ patched x after width value) × (result < 2 ^ 24) }
 {
     let top = width + after;
-    let unit = power(after);
-    (x >> top) * power(top) + (value as u32 * unit + (x & (unit - 1)))
-}
-
-// Two to the `n`.
-fn power(n: usize) -> u32
-    requires { n ≤ 24 }
-    ensures { result ≡ 2 ^ n }
-{
-    1u32 << n
+    let unit = 1 << after;
+    (x >> top) * (1 << top) + (u32::from(value) * unit + (x & (unit - 1)))
 }
 
 // The three bytes from the one that holds bit `at`, as one number; bytes past the end count as 0.
@@ -69,14 +60,14 @@ fn three(s: &[u8], at: usize) -> u32
     ensures { Window s.now (at / 8) result }
 {
     let i = at / 8;
-    byte(s, i) * 65536 + (byte(s, i + 1) * 256 + byte(s, i + 2))
+    u32::from_be_bytes([0, byte(s, i), byte(s, i + 1), byte(s, i + 2)])
 }
 
 // The byte at an index, 0 past the end.
-fn byte(s: &[u8], i: usize) -> u32
-    ensures { (result ≡ get_or s.now i 0) × (result < 256) }
+fn byte(s: &[u8], i: usize) -> u8
+    ensures { result ≡ get_or s.now i 0 }
 {
-    if i < s.len() { s[i] as u32 } else { 0 }
+    s.get(i).copied().unwrap_or(0)
 }
 
 // Writes a number below 2^24 over the three bytes from the one that holds bit `at`, as far as there are bytes.
@@ -85,15 +76,17 @@ fn store_three(buf: &mut [u8], at: usize, x: u32)
     ensures { buf.new ≡ sets buf.old (at / 8) (bytes_of x) }
 {
     let i = at / 8;
-    store(buf, i, (x / 65536) as u8);
-    store(buf, i + 1, (x / 256 % 256) as u8);
-    store(buf, i + 2, (x % 256) as u8);
+    let [_, first, second, third] = x.to_be_bytes();
+    store(buf, i, first);
+    store(buf, i + 1, second);
+    store(buf, i + 2, third);
 }
 
 // Writes the byte at an index, if there is one there.
 fn store(buf: &mut [u8], i: usize, b: u8)
     ensures { buf.new ≡ set buf.old i b }
 {
+    // By its index, since no proof knows a slice's bytes after a write through get_mut.
     if i < buf.len() {
         buf[i] = b;
     }
