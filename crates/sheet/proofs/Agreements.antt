@@ -9,8 +9,11 @@ use lib.ListN.{length, take, drop, length-take}
 use lib.Seq.{take_at}
 use lib.Dec.{ltb}
 use borrow.Author.Tests.{ltb-true}
+use Rattle.std.specs.declared.result.Result.TheVariants.{Ok, Err}
+use Rattle.rules.specs.declared.ReadError.{ReadError}
+use Rattle.rules.specs.declared.ReadError.TheVariants.{RowShort, Unfit}
 use Rattle.rules.specs.declared.Fault.{Fault}
-use Rattle.rules.specs.declared.Reading.{Reading}
+use Rattle.rules.specs.Answers.{Reading}
 use Rattle.rules.specs.Basic.{keep, or_else, settle, is_none}
 use Rattle.rules.specs.Sheet.{count_of, row_of}
 use Rattle.rules.specs.Judgement.{head, room, readable}
@@ -38,9 +41,9 @@ clash p q = let z : ◌≡◌ {A = ℕ} 0 1 = cc in omega arith
 
 -- what the reader's answer says of a sheet
 abbrev Means : (s row : List ℕ) → Reading → Type 0
-Means s row (Reading.Row n) = (readable s ≡ none) × (n ≡ count_of s)
-Means s row Reading.RowShort = (head s ≡ none) × (length row < count_of s)
-Means s row (Reading.Unfit e) = readable s ≡ none → ⊥
+Means s row (Ok n) = (readable s ≡ none) × (n ≡ count_of s)
+Means s row (Err RowShort) = (head s ≡ none) × (length row < count_of s)
+Means s row (Err (Unfit e)) = readable s ≡ none → ⊥
 
 -- an accepted sheet, whose row is the first n bytes that were written
 pub record Own (s after : List ℕ) (n : ℕ) : Type 0 where
@@ -61,21 +64,20 @@ module _ (s row : List ℕ) where
       go none false (some f) eh er eb = rw (eh, er, eb) (clash (readable-parts s ∙ after_none (rest s) eh ∙ eb))
       go (some f) r b eh er eb = rw eh (clash (readable-parts s ∙ after-fault (rest s) eh))
 
-  pub unfit-means : (r : Reading) {after : List ℕ} → GivenBack s row r after → {f : Fault} → r ≡ Reading.Unfit f → readable s ≡ none → ⊥
-  unfit-means r g {f} e =
-      let e' : Reading.Unfit f ≡ reading s row = sym e ∙ g.answer in
-      rw (← e') at means
-
-  pub short-never : (r : Reading) {after : List ℕ} → GivenBack s row r after → r ≡ Reading.RowShort → 512 ≤ length row → ⊥
-  short-never r g e l =
-      let e' : Reading.RowShort ≡ reading s row = sym e ∙ g.answer in
+  -- where there is room for every row, a sheet that is not read has a fault
+  pub refused-means : (r : Reading) {after : List ℕ} → GivenBack s row r after → {x : ReadError} → r ≡ Err x → 512 ≤ length row → readable s ≡ none → ⊥
+  refused-means r g {x = RowShort} e l =
+      let e' : Err RowShort ≡ reading s row = sym e ∙ g.answer in
       let m : (head s ≡ none) × (length row < count_of s) = rw (← e') at means in
       omega (arith, (headed s m.0).high)
+  refused-means r g {x = Unfit f} e l =
+      let e' : Err (Unfit f) ≡ reading s row = sym e ∙ g.answer in
+      rw (← e') at means
 
-  pub row-means : (r : Reading) (after : List ℕ) → GivenBack s row r after → (n : ℕ) → r ≡ Reading.Row n → Own s after n
+  pub row-means : (r : Reading) (after : List ℕ) → GivenBack s row r after → (n : ℕ) → r ≡ Ok n → Own s after n
   unfolding row_after written
   row-means r after g n e =
-      let e' : Reading.Row n ≡ reading s row = sym e ∙ g.answer in
+      let e' : Ok n ≡ reading s row = sym e ∙ g.answer in
       let m : (readable s ≡ none) × (n ≡ count_of s) = rw (← e') at means in
       let w : after ≡ written (row_of s) row = g.bytes ∙ ap (λ r. row_after r s row) e in
       let t : take n after ≡ row_of s = ap (take n) w ∙ take_at (row_of s) (drop (length (row_of s)) row) n (length-row s ∙ sym m.1) in

@@ -1,19 +1,18 @@
--- The head of a sheet, test by test, and what holds of a sheet whose head has no fault.
+-- What holds of a sheet whose head has no fault.
 use mathlib.Core.Path.{◌≡◌, refl}
 use mathlib.Core.Bool.{Bool, true, false, not, ◌&&◌, ◌||◌}
 use mathlib.Core.List.{List}
 use mathlib.Core.Option.{none, some}
-use Prim.Native.Nat.{ℕ, ◌≤◌, ◌<◌}
+use Prim.Native.Nat.{ℕ, ◌≤◌}
 use native.Mathlib.Omega.{arith}
 use lib.ListN.{length}
 use lib.Dec.{leb, ltb, eqb}
-use borrow.Author.Tests.{ltb-false, leb-true, eqb-true, lt-ltb, le-ltb, le-leb, lt-leb, eq-eqb, ne_eqb}
+use borrow.Author.Tests.{ltb-false, leb-true, eqb-true, le-leb}
 use Rattle.rules.specs.declared.Fault.TheVariants.{Head, Tracks, Length}
 use Rattle.rules.specs.Basic.{keep, or_else}
 use Rattle.rules.specs.Sheet.{takes, size, upper_of, lower_of, count_of}
 use Rattle.rules.specs.Judgement.{wrong_count, head}
 use Rattle.rules.proofs.SheetFields.{lower_of-lt}
-use Rattle.bits.specs.Access.{Got}
 use Rattle.sheet.specs.Fields.{Packed}
 
 -- 11 to 13 found nothing
@@ -25,52 +24,10 @@ pub record Headed (s : List ℕ) : Type 0 where
   pub lower : lower_of s ≤ 3
   pub whole : length s ≡ size (count_of s)
 
-lower-small : (s : List ℕ) → lower_of s ≤ 3
-lower-small s = omega (arith, lower_of-lt s)
-
--- what was read from the head's fields
-pub got-upper : {s : List ℕ} {r : ℕ} → Got s 0 4 r → r ≡ upper_of s
-unfolding upper_of
-got-upper g = g.is
-
-pub got-lower : {s : List ℕ} {r : ℕ} → Got s 4 2 r → r ≡ lower_of s
-unfolding lower_of
-got-lower g = g.is
-
-pub got-count : {s : List ℕ} {r : ℕ} → Got s 6 10 r → r ≡ count_of s
-unfolding count_of
-got-count g = g.is
+pub lower_few : (s : List ℕ) → lower_of s ≤ 3
+lower_few s = omega (arith, lower_of-lt s)
 
 module _ (s : List ℕ) where
-  pub head-short : length s < 2 → head s ≡ some Head
-  unfolding head keep or_else
-  head-short h = rw (lt-ltb (length s) 2 h)
-
-  pub head-low : 2 ≤ length s → count_of s < 2 → head s ≡ some Head
-  unfolding head wrong_count keep or_else
-  head-low l h = rw (le-ltb (length s) 2 l, lt-ltb (count_of s) 2 h)
-
-  pub head-high : 2 ≤ length s → 512 < count_of s → head s ≡ some Head
-  unfolding head wrong_count keep or_else
-  head-high l h = rw (le-ltb (length s) 2 l, le-ltb (count_of s) 2 (omega arith), lt-ltb 512 (count_of s) h)
-
-  -- 11 found nothing
-  module _ (long : 2 ≤ length s) (low : 2 ≤ count_of s) (high : count_of s ≤ 512) where
-    pub head-tracks : 3 < upper_of s → head s ≡ some Tracks
-    unfolding head wrong_count takes keep or_else
-    head-tracks h =
-        rw (le-ltb (length s) 2 long, le-ltb (count_of s) 2 low, le-ltb 512 (count_of s) high, lt-leb (upper_of s) 3 h)
-
-    pub head-length : upper_of s ≤ 3 → (length s ≡ size (count_of s) → ⊥) → head s ≡ some Length
-    unfolding head wrong_count takes keep or_else
-    head-length h n =
-        rw (le-ltb (length s) 2 long, le-ltb (count_of s) 2 low, le-ltb 512 (count_of s) high, le-leb (upper_of s) 3 h, le-leb (lower_of s) 3 (lower-small s), ne_eqb (length s) (size (count_of s)) n)
-
-    pub head-fine : upper_of s ≤ 3 → length s ≡ size (count_of s) → head s ≡ none
-    unfolding head wrong_count takes keep or_else
-    head-fine h e =
-        rw (le-ltb (length s) 2 long, le-ltb (count_of s) 2 low, le-ltb 512 (count_of s) high, le-leb (upper_of s) 3 h, le-leb (lower_of s) 3 (lower-small s), eq-eqb (length s) (size (count_of s)) e)
-
   pub headed : head s ≡ none → Headed s
   unfolding head wrong_count takes keep or_else
   headed e = go (ltb (length s) 2) (ltb (count_of s) 2) (ltb 512 (count_of s)) (leb (upper_of s) 3) (eqb (length s) (size (count_of s))) refl refl refl refl refl e
@@ -87,10 +44,10 @@ module _ (s : List ℕ) where
             low = ltb-false (count_of s) 2 eb;
             high = ltb-false 512 (count_of s) ec;
             upper = leb-true (upper_of s) 3 ed;
-            lower = lower-small s;
+            lower = lower_few s;
             whole = eqb-true (length s) (size (count_of s)) ef;
           }
-      go false false false true false ea eb ec ed ef e = let z : some Length ≡ none = rw (le-leb (lower_of s) 3 (lower-small s)) at e in let z' : ◌≡◌ {A = ℕ} 0 1 = cc in absurd (omega arith)
+      go false false false true false ea eb ec ed ef e = let z : some Length ≡ none = rw (le-leb (lower_of s) 3 (lower_few s)) at e in let z' : ◌≡◌ {A = ℕ} 0 1 = cc in absurd (omega arith)
 
   -- the nodes of such a sheet can be unpacked to 512 bytes
   pub packed : Headed s → {n : ℕ} → n ≡ count_of s → (fields : List ℕ) → 512 ≤ length fields → Packed s n fields

@@ -1,7 +1,6 @@
 pub mod FieldBytes
 pub mod Heads
 pub mod Tells
-pub mod Wires
 pub mod Scans
 pub mod Tails
 pub mod Touches

@@ -1,16 +1,19 @@
 -- Two rows met node by node, with a table from the labels of the first to the nets of the second: so far they join the same pins.
 use mathlib.Core.Path.{◌≡◌, refl, sym, ap, ap₂, ◌∙◌}
 use mathlib.Core.Bool.{Bool, true, false, not, ◌&&◌}
-use mathlib.Core.List.{List, ◌∷◌}
+use mathlib.Core.List.{List, ◌∷◌, map}
 use mathlib.Core.Logic.{◌≢◌}
 use Prim.Native.Nat.{ℕ, zero, suc, ◌+◌, ◌≤◌, ◌<◌}
 use native.Mathlib.Decide.{ℕ_discrete}
 use native.Mathlib.Numerals.{add-one}
 use native.Mathlib.Omega.{arith}
-use lib.ListN.{length, get_or, drop, set, replicate, length-set}
+use lib.ListN.{length, get_or, drop, set, replicate, length-set, get_or-map}
 use lib.Seq.{drop-cons, get_or-set_same, get_or-set_other, set-get_or}
 use lib.Dec.{eqb}
 use borrow.Author.Tests.{eqb-true, eqb-false, eq-eqb, ne_eqb}
+use Rattle.std.specs.Prelude.{Option, None, Some}
+use Rattle.std.specs.Option.{option_eq}
+use Rattle.std.proofs.lemmas.List.{map-set}
 use Rattle.rules.specs.Basic.{pick}
 use Rattle.rules.specs.Row.{blank, joined, SamePins}
 use Rattle.rules.proofs.Pins.{same-label}
@@ -21,6 +24,11 @@ pub record Past (l : List ℕ) (i x : ℕ) : Type 0 where
   pub at : ℕ
   pub past : at < i
   pub is : get_or l at 0 ≡ x
+
+-- a cell of the table as a number: one more than the net that it has, or 0
+abbrev pub cell : Option ℕ → ℕ
+cell None = 0
+cell (Some x) = suc x
 
 -- before node i, with n nets begun in the second row: the table has one more than the net of each label met, one more than itself for the label of
 -- blanks, and 0 elsewhere
@@ -248,6 +256,61 @@ module _ (row own nets : List ℕ) (i n : ℕ) (h : i < length own) (m : Matched
       go (blank-pin k t) =
           let l : lab ≡ 255 = eqb-true lab 255 (s.blanks i hr ∙ eq-eqb net 255 k) in
           d (rw (begins-blank n k) (ap (λ (y : ℕ). get_or nets y 0) l ∙ m.blanks ∙ ap suc (sym k)))
+
+-- ---- the table of nets, of which the cells are these numbers
+
+-- two cells that are told to be the same
+same-cells : (x y : Option ℕ) → option_eq eqb x y ≡ true → x ≡ y
+same-cells None None e = refl
+same-cells None (Some y) e = cc
+same-cells (Some x) None e = cc
+same-cells (Some x) (Some y) e = ap Some (eqb-true x y e)
+
+cells-same : (x y : Option ℕ) → x ≡ y → option_eq eqb x y ≡ true
+cells-same x None e = rw e
+cells-same x (Some y) e = rw e (eq-eqb y y refl)
+
+cell-pick : (t : Bool) (x : ℕ) → cell (pick t None (Some x)) ≡ pick t 0 (suc x)
+unfolding pick
+cell-pick true x = refl
+cell-pick false x = refl
+
+-- a cell is what it was asked to be, by the number that it has
+cell-injective : (x y : Option ℕ) → cell x ≡ cell y → x ≡ y
+cell-injective None None e = refl
+cell-injective None (Some y) e = absurd (omega arith)
+cell-injective (Some x) None e = absurd (omega arith)
+cell-injective (Some x) (Some y) e = let z : x ≡ y = omega arith in ap Some z
+
+module _ (row own : List ℕ) (table : List (Option ℕ)) (i n : ℕ) (h : i < length own) (m : Matched row own (map cell table) i n) where
+  module _ {l x : ℕ} (p : l ≡ get_or row i 0) (q : x ≡ get_or own i 0) {k : Option ℕ} (r : k ≡ pick (begins x n) None (Some x)) where
+    asked : cell k ≡ pick (begins (get_or own i 0) n) 0 (suc (get_or own i 0))
+    asked = ap cell r ∙ cell-pick (begins x n) x ∙ ap (λ (x : ℕ). pick (begins x n) 0 (suc x)) q
+
+    there : cell (get_or table l None) ≡ get_or (map cell table) (get_or row i 0) 0
+    there = sym (get_or-map cell table l None) ∙ ap (λ (l : ℕ). get_or (map cell table) l 0) p
+
+    pub cells-step : l < 256 → false ≡ not (option_eq eqb (get_or table l None) k) → {n' : ℕ} → n' ≡ pick (begins x n) (suc n) n
+        → Matched row own (map cell (set table l (Some x))) (i + 1) n'
+    cells-step b t e =
+        let same : get_or table l None ≡ k = same-cells (get_or table l None) k (told (option_eq eqb (get_or table l None) k) t) in
+        let b' : get_or row i 0 < 256 = omega arith in
+        let e' = e ∙ ap (λ (x : ℕ). pick (begins x n) (suc n) n) q in
+        rw (map-set cell table l (Some x), p)
+        (match-step row own (map cell table) i n h m b' (sym there ∙ ap cell same ∙ asked) (ap suc q) e')
+      where
+        told : (t : Bool) → false ≡ not t → t ≡ true
+        told true e = refl
+        told false e = cc
+
+    pub cells-fail : true ≡ not (option_eq eqb (get_or table l None) k) → i < length row → SamePins row own → ⊥
+    cells-fail t hr =
+        match-fails row own (map cell table) i n h m hr
+        (λ e. let same = cells-same (get_or table l None) k (cell-injective (get_or table l None) k (there ∙ e ∙ sym asked)) in
+        let z : true ≡ false = rw same at t in clash z)
+      where
+        clash : true ≡ false → ⊥
+        clash z = let w : ◌≡◌ {A = ℕ} 0 1 = cc in omega arith
 
 -- every node agrees: so do the rows
 pub match-end : (row own nets : List ℕ) (n i : ℕ) → length row ≡ length own → i ≡ length own → Matched row own nets i n → SamePins row own

@@ -1,21 +1,23 @@
 -- How many nets nodes without a fault have: each node begins one, ends one, or does neither.
-use mathlib.Core.Path.{◌≡◌, refl, sym, ap, ◌∙◌}
+use mathlib.Core.Path.{◌≡◌, sym, ap, ◌∙◌}
+use mathlib.Core.Logic.{◌⊎◌, ⊎_elim}
 use mathlib.Core.Bool.{true, false}
 use mathlib.Core.List.{List, [], ◌∷◌}
-use Prim.Native.Nat.{ℕ, zero, suc, ◌+◌, ◌*◌, ◌/◌, ◌%◌, ◌≤◌, ◌<◌}
+use Prim.Native.Nat.{ℕ, suc, ◌+◌, ◌*◌, ◌≤◌, ◌<◌}
 use native.Mathlib.Numerals.{add-one}
 use native.Mathlib.Omega.{arith}
 use lib.ListN.{length, get_or, drop, length-map}
 use lib.Dec.{ltb}
 use borrow.Author.Tests.{lt-ltb, le-ltb}
-use Rattle.rules.specs.Row.{Kind, B, M, E, N}
+use Rattle.rules.specs.declared.Kind.{Kind}
+use Rattle.rules.specs.declared.Kind.TheVariants.{B, M, E, N}
 use Rattle.rules.specs.Street.{last, counted}
 use Rattle.rules.specs.Sheet.{kind_in, Entry, entry, begun, begun_by}
 use Rattle.rules.specs.Judgement.{left}
-use Rattle.rules.proofs.Fields.{below_at}
 use Rattle.rules.proofs.Fits.{FitsAt}
 use Rattle.rules.proofs.Legal.{Legal, done, then}
 use Rattle.sheet.specs.Fields.{entry_in, entries_in, Faultless}
+use Rattle.sheet.specs.Told.{kind_at}
 use Rattle.sheet.proofs.Scans.{entries_from, entries-end}
 use Rattle.sheet.proofs.Walks.{faultless-legal}
 
@@ -30,15 +32,6 @@ between N = 1
 pub betweens : List Entry → ℕ
 betweens [] = 0
 betweens (entry f a ∷ es) = between (kind_in f) + betweens es
-
--- their kind fields are odd
-between-odd : (f : ℕ) → f < 4 → between (kind_in f) ≡ f % 2
-unfolding kind_in
-between-odd zero h = refl
-between-odd (suc zero) h = refl
-between-odd (suc (suc zero)) h = refl
-between-odd (suc (suc (suc zero))) h = refl
-between-odd (suc (suc (suc (suc f)))) h = absurd (omega arith)
 
 -- a net that begins ends
 betweens-nets : {ku kl b : ℕ} {es : List Entry} → Legal ku kl b es → (n : ℕ) → 2 * begun_by n es + b + betweens es ≡ 2 * n + length es
@@ -74,19 +67,20 @@ module _ (fs : List ℕ) where
     pub within : i ≤ length fs
     pub rest : betweens (drop i (entries_in fs)) ≡ betweens (entries_in fs)
 
-  module _ (i : ℕ) (h : i < length fs) (m : Paired i) where
-    here : between (kind_in (get_or fs i 0 / 16)) + betweens (drop (suc i) (entries_in fs)) ≡ betweens (entries_in fs)
-    unfolding betweens entry_in
-    here = ap betweens (sym (entries_from fs i h)) ∙ m.rest
+  module _ (i : ℕ) (h : i < length fs) (m : Paired i) {k : Kind} (p : k ≡ kind_at (entry_in (get_or fs i 0))) where
+    here : between k + betweens (drop (suc i) (entries_in fs)) ≡ betweens (entries_in fs)
+    unfolding betweens entry_in kind_at
+    here = rw p (ap betweens (sym (entries_from fs i h)) ∙ m.rest)
 
-    odd : Clear → between (kind_in (get_or fs i 0 / 16)) ≡ get_or fs i 0 / 16 % 2
-    odd c = between-odd (get_or fs i 0 / 16) (omega (arith, below_at c.2.low i 0 h))
+    pub paired-step : (k ≡ B) ⊎ (k ≡ E) → Paired (i + 1)
+    paired-step q =
+        let none : between k ≡ 0 = ⊎_elim (λ e. rw e) (λ e. rw e) q in
+        record { within = omega arith; rest = rw (add-one i) (omega (arith, here, none)) }
 
-    pub paired-step : Clear → (get_or fs i 0 / 16 % 2 ≡ 1 → ⊥) → Paired (i + 1)
-    paired-step c n = record { within = omega arith; rest = rw (add-one i) (omega (arith, here, n, odd c)) }
-
-    pub paired-fails : Clear → get_or fs i 0 / 16 % 2 ≡ 1 → false ≡ ltb 255 nets
-    paired-fails c o = sym (le-ltb 255 nets (omega (arith, clear-nets c, c.2.few, here, odd c)))
+    pub paired-fails : Clear → (k ≡ M) ⊎ (k ≡ N) → false ≡ ltb 255 nets
+    paired-fails c q =
+        let one : between k ≡ 1 = ⊎_elim (λ e. rw e) (λ e. rw e) q in
+        sym (le-ltb 255 nets (omega (arith, clear-nets c, c.2.few, here, one)))
 
   pub paired-end : (i : ℕ) → length fs ≤ i → 512 ≤ length fs → Paired i → Clear → true ≡ ltb 255 nets
   unfolding betweens

@@ -3,12 +3,12 @@ use mathlib.Core.Path.{◌≡◌, refl, ◌∙◌}
 use mathlib.Core.List.{List}
 use mathlib.Core.Option.{Option, none, some}
 use Prim.Native.Nat.{ℕ, ◌≤◌, ◌<◌}
-use native.Mathlib.Omega.{arith}
 use lib.ListN.{length}
 use borrow.Author.Tests.{lt-ltb, le-ltb}
+use Rattle.std.specs.declared.result.Result.TheVariants.{Ok, Err}
+use Rattle.rules.specs.declared.ReadError.TheVariants.{Unfit}
 use Rattle.rules.specs.declared.Fault.{Fault}
 use Rattle.rules.specs.declared.Fault.TheVariants.{Nets}
-use Rattle.rules.specs.declared.Reading.{Reading}
 use Rattle.rules.specs.Basic.{keep, or_else, settle}
 use Rattle.rules.specs.Sheet.{count_of, nets_of, row_of}
 use Rattle.rules.specs.Judgement.{head, room, middle, tail, judge, crowded, readable}
@@ -33,16 +33,6 @@ readable-parts s = go (head s) (middle s) (tail s)
     go (some f) m t = refl
 
 module _ (s : List ℕ) where
-  -- the body's fault is the first
-  pub body-first : {e : Fault} → or_else (middle s) (tail s) ≡ some e → rest s ≡ some e
-  unfolding or_else
-  body-first q = go (middle s) (tail s) q
-    where
-      go : (m t : Option Fault) {e : Fault} → or_else m t ≡ some e → or_else m (or_else t (crowded s)) ≡ some e
-      go none none q = let z : ◌≡◌ {A = ℕ} 0 1 = cc in absurd (omega arith)
-      go none (some f) q = q
-      go (some f) t q = q
-
   pub headless : judge s ≡ none → head s ≡ none
   unfolding judge
   headless e = (or_else-none (head s) (or_else (middle s) (tail s)) e).0
@@ -62,21 +52,13 @@ module _ (s : List ℕ) where
   none_last e h = rest-nets e ∙ few-crowded s h
 
 module _ (s row : List ℕ) where
-  pub read_head : {e : Fault} → head s ≡ some e → GivenBack s row (Reading.Unfit e) row
-  unfolding reading row_after settle or_else
-  read_head h = record { answer = rw h; bytes = refl }
-
   module _ (h : head s ≡ none) where
-    pub read_short : length row < count_of s → GivenBack s row Reading.RowShort row
-    unfolding reading row_after settle or_else room keep
-    read_short l = record { answer = rw (h, lt-ltb (length row) (count_of s) l); bytes = refl }
-
-    pub read-unfit : count_of s ≤ length row → {e : Fault} → rest s ≡ some e → GivenBack s row (Reading.Unfit e) row
+    pub read-unfit : count_of s ≤ length row → {e : Fault} → rest s ≡ some e → GivenBack s row (Err (Unfit e)) row
     unfolding reading row_after settle or_else room keep
     read-unfit l b = record { answer = rw (h, le-ltb (length row) (count_of s) l, b); bytes = refl }
 
     pub read-fine : count_of s ≤ length row → rest s ≡ none → {n : ℕ} → n ≡ count_of s → {after : List ℕ}
-        → after ≡ written (row_of s) row → GivenBack s row (Reading.Row n) after
+        → after ≡ written (row_of s) row → GivenBack s row (Ok n) after
     unfolding reading row_after settle or_else room keep
     read-fine l b {n} e w = record { answer = rw (h, le-ltb (length row) (count_of s) l, b, e); bytes = w }
 

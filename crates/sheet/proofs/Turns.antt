@@ -6,7 +6,9 @@ use Prim.Native.Nat.{ℕ, zero, suc, ◌-◌, ◌≤◌, ◌<◌}
 use native.Mathlib.Omega.{arith}
 use lib.ListN.{length}
 use Rattle.rules.specs.Basic.{put, cut}
-use Rattle.rules.specs.Row.{Kind, B, M, E, N, node}
+use Rattle.rules.specs.declared.Kind.{Kind}
+use Rattle.rules.specs.declared.Kind.TheVariants.{B, M, E, N}
+use Rattle.rules.specs.Row.{node}
 use Rattle.rules.specs.Bits.{Below, nil, cons}
 use Rattle.rules.specs.Street.{last, counted, next}
 use Rattle.rules.specs.Sheet.{kind_in, Entry, begun, begun_by, nets_of, nets, net_at, pins_of, label, row_of}

@@ -7,21 +7,21 @@ use native.Mathlib.Numerals.{add-one}
 use native.Mathlib.Omega.{arith}
 use lib.ListN.{length, get_or, take, drop, length-drop, length-map}
 use lib.Seq.{drop-cons, length-take-le}
-use Rattle.rules.specs.Row.{Kind, B, M, E, N, node}
+use Rattle.rules.specs.declared.Kind.{Kind}
+use Rattle.rules.specs.declared.Kind.TheVariants.{B, M, E, N}
+use Rattle.rules.specs.Row.{node}
 use Rattle.rules.specs.Street.{last, counted, next}
 use Rattle.rules.specs.Sheet.{kind_in, Entry, entry, upper_of, lower_of, count_of, entries_of, begun, begun_by, nets_of, nets, net_at, pins_of, row_of}
 use Rattle.rules.specs.Judgement.{left, judge}
 use Rattle.rules.proofs.Fits.{FitsAt}
 use Rattle.rules.proofs.Legal.{Legal, done, then, scan-legal, legal-scan, legal-open}
 use Rattle.rules.proofs.SheetFields.{length-entries_of}
-use Rattle.rules.proofs.GivenBack.{labelled, labels, length-labels}
+use Rattle.rules.proofs.GivenBack.{labelled, labels, length-then, length-labels}
 use Rattle.rules.proofs.Accepted.{judge-passed}
-use Rattle.street.specs.declared.Order.{Order}
-use Rattle.street.specs.Order.{listed, Sound, Emptied}
-use Rattle.sheet.specs.declared.reader.Step.{Step}
+use Rattle.sheet.specs.declared.reader.Walk.{Walk}
 use Rattle.sheet.specs.Fields.{entry_in, entries_in, row_in, Unpacked, Faultless}
 use Rattle.sheet.specs.Told.{kind_at, above_at}
-use Rattle.sheet.specs.Walk.{Ready, Touched}
+use Rattle.sheet.specs.Walk.{Ready, label_on, after}
 use Rattle.sheet.proofs.Heads.{headed}
 use Rattle.sheet.proofs.Readings.{headless}
 use Rattle.sheet.proofs.Scans.{entries_from}
@@ -104,75 +104,83 @@ length-row_in fs = length-labels 0 [] (entries_in fs) ∙ length-map fs entry_in
 -- ---- the walk
 
 module _ (fs : List ℕ) {ku kl : ℕ} (d : Faultless ku kl fs) where
-  -- before node i: the order o, with n nets begun, is legal for the entries from there on, whose labels are the rest of the row
-  pub record Walked (i : ℕ) (o : Order) (n : ℕ) : Type 0 where
+  -- before node i: the walk's order, with the nets begun, is legal for the entries from there on, whose labels are the rest of the row
+  pub record Walked (i : ℕ) (w : Walk) : Type 0 where
     pub within : i ≤ length fs
-    pub sound : Sound o
-    pub legal : Legal ku kl o.count (drop i (entries_in fs))
-    pub few : 2 * n ≤ i + o.count
-    pub ahead : labels n (listed o) (drop i (entries_in fs)) ≡ drop i (row_in fs)
+    pub legal : Legal ku kl (length w.order) (drop i (entries_in fs))
+    pub few : 2 * w.begun ≤ i + length w.order
+    pub ahead : labels w.begun w.order (drop i (entries_in fs)) ≡ drop i (row_in fs)
 
-  pub walk_start : (o : Order) → Emptied o → Walked 0 o 0
+  pub walk_start : (o : List ℕ) → o ≡ [] → Walked 0 (record { order = o; begun = 0 })
   walk_start o e =
       record {
         within = omega arith;
-        sound = e.sound;
-        legal = rw e.count (faultless-legal d);
+        legal = rw e (faultless-legal d);
         few = omega arith;
-        ahead = rw e.list;
+        ahead = rw e;
       }
 
-  module _ (i : ℕ) (h : i < length fs) (o : Order) (n : ℕ) (w : Walked i o n) where
+  module _ (i : ℕ) (h : i < length fs) (w : Walk) (m : Walked i w) where
     -- node i's entry
     abbrev own : Entry
     own = entry_in (get_or fs i 0)
 
-    here : Allowed ku kl o.count own (drop (suc i) (entries_in fs))
-    here = allowed (rw (entries_from fs i h) at w.legal)
+    here : Allowed ku kl (length w.order) own (drop (suc i) (entries_in fs))
+    here = allowed (rw (entries_from fs i h) at m.legal)
 
     -- each net has two of at most 512 nodes: a new one has a number below 256
-    pub walk-ready : Ready own o n
+    pub walk-ready : Ready own w
     unfolding begun left counted
     walk-ready =
         record {
-          sound = w.sound;
           stands = here.fits.high;
           few = omega (arith, here.fits.sum, d.upper, d.lower);
           small = go (kind_at own) (legal-few here.rest);
         }
       where
-        go : (k : Kind) → left k o.count ≤ length (drop (suc i) (entries_in fs)) → begun k n ≤ 256
-        go B l = omega (arith, length-drop (suc i) (entries_in fs), length-map fs entry_in, w.few, d.few)
-        go M l = omega (arith, length-drop (suc i) (entries_in fs), length-map fs entry_in, w.few, d.few)
-        go E l = omega (arith, length-drop (suc i) (entries_in fs), length-map fs entry_in, w.few, d.few)
-        go N l = omega (arith, length-drop (suc i) (entries_in fs), length-map fs entry_in, w.few, d.few)
+        go : (k : Kind) → left k (length w.order) ≤ length (drop (suc i) (entries_in fs)) → begun k w.begun ≤ 256
+        go B l = omega (arith, length-drop (suc i) (entries_in fs), length-map fs entry_in, m.few, d.few)
+        go M l = omega (arith, length-drop (suc i) (entries_in fs), length-map fs entry_in, m.few, d.few)
+        go E l = omega (arith, length-drop (suc i) (entries_in fs), length-map fs entry_in, m.few, d.few)
+        go N l = omega (arith, length-drop (suc i) (entries_in fs), length-map fs entry_in, m.few, d.few)
 
-    module _ (r : Step) (t : Touched own o n r) where
-      both : (r.label ∷ labels r.begun (listed r.order) (drop (suc i) (entries_in fs))) ≡ get_or (row_in fs) i 0 ∷ drop (suc i) (row_in fs)
-      both =
-          rw (t.label, t.nets, t.list)
-          (sym (labels-cons n (listed o) own (drop (suc i) (entries_in fs)))
-          ∙ ap (labels n (listed o)) (sym (entries_from fs i h))
-          ∙ w.ahead
-          ∙ drop-cons (row_in fs) i 0 (omega (arith, length-row_in fs)))
+    abbrev passed : Walk
+    passed = after w own
 
-      -- the label is the row's
-      pub walk-label : r.label ≡ get_or (row_in fs) i 0
-      walk-label = cc both
+    both : (label_on w own ∷ labels passed.begun passed.order (drop (suc i) (entries_in fs))) ≡ get_or (row_in fs) i 0 ∷ drop (suc i) (row_in fs)
+    unfolding label_on after
+    both =
+        sym (labels-cons w.begun w.order own (drop (suc i) (entries_in fs)))
+        ∙ ap (labels w.begun w.order) (sym (entries_from fs i h))
+        ∙ m.ahead
+        ∙ drop-cons (row_in fs) i 0 (omega (arith, length-row_in fs))
 
-      pub walk_step : Walked (i + 1) r.order r.begun
-      unfolding begun left last counted
-      walk_step =
-          record {
-            within = omega arith;
-            sound = t.sound;
-            legal = rw (add-one i, t.count) here.rest;
-            few = rw (t.count, t.nets) (go (kind_at own) here.fits.high);
-            ahead = rw (add-one i) (cc both);
-          }
-        where
-          go : (k : Kind) → suc (above_at own) ≤ last k (counted k o.count) → 2 * begun k n ≤ i + 1 + left k o.count
-          go B l = omega (arith, w.few)
-          go M l = omega (arith, w.few)
-          go E l = omega (arith, w.few)
-          go N l = omega (arith, w.few)
+    -- the label is the row's
+    pub walk-label : {x : ℕ} → x ≡ label_on w own → x ≡ get_or (row_in fs) i 0
+    walk-label e = cc both
+
+    -- the wires after the node
+    wires : length passed.order ≡ left (kind_at own) (length w.order)
+    unfolding after
+    wires = length-then (kind_at own) (above_at own) w.begun w.order here.fits.high
+
+    nets-begun : passed.begun ≡ begun (kind_at own) w.begun
+    unfolding after
+    nets-begun = refl
+
+    pub walk_step : {v : Walk} → v ≡ after w own → Walked (i + 1) v
+    unfolding begun left last counted
+    walk_step e =
+        rw e
+        (record {
+          within = omega arith;
+          legal = rw (add-one i, wires) here.rest;
+          few = rw (wires, nets-begun) (go (kind_at own) here.fits.high);
+          ahead = rw (add-one i) (cc both);
+        })
+      where
+        go : (k : Kind) → suc (above_at own) ≤ last k (counted k (length w.order)) → 2 * begun k w.begun ≤ i + 1 + left k (length w.order)
+        go B l = omega (arith, m.few)
+        go M l = omega (arith, m.few)
+        go E l = omega (arith, m.few)
+        go N l = omega (arith, m.few)

@@ -1,6 +1,6 @@
 -- What the reader ensures: its answer, and every byte of the row's buffer.
 use Rattle.std.specs.Prelude.{◌≡◌, List, ℕ}
-use Rattle.rules.specs.declared.Reading.{Reading}
+use Rattle.rules.specs.Answers.{Reading}
 use Rattle.rules.specs.Answers.{reading, row_after}
 
 pub record GivenBack (s row : List ℕ) (r : Reading) (after : List ℕ) : Type 0 where

@@ -3,11 +3,14 @@ ghost use Rattle.std.specs.Prelude.{◌≡◌, ◌≤◌, ◌<◌, length};
 ghost use Rattle.std.proofs.Math.Option.{none};
 ghost use Rattle.rules.specs.Sheet.{upper_of, lower_of, count_of, padding_of};
 ghost use Rattle.rules.specs.Judgement.{head};
-ghost use Rattle.sheet.specs.Fields.{fields_of, filled, Packed, Unpacked};
+ghost use Rattle.sheet.specs.Fields.{entry_in, fields_of, filled, Packed, Unpacked};
+ghost use Rattle.sheet.specs.Told.{kind_at, above_at};
 
 use bits::get_bits;
+use rules::Kind;
 
 // Ku.
+#[tactic(auto, unfolding(rules::specs::Sheet::upper_of))]
 pub fn upper_of(s: &[u8]) -> u8
     requires { 2 ≤ length s.now }
     ensures { (result ≡ upper_of s.now) × (result < 16) }
@@ -16,6 +19,7 @@ pub fn upper_of(s: &[u8]) -> u8
 }
 
 // Kl.
+#[tactic(auto, unfolding(rules::specs::Sheet::lower_of))]
 pub fn lower_of(s: &[u8]) -> u8
     requires { 2 ≤ length s.now }
     ensures { (result ≡ lower_of s.now) × (result < 4) }
@@ -24,6 +28,7 @@ pub fn lower_of(s: &[u8]) -> u8
 }
 
 // The number of nodes.
+#[tactic(auto, unfolding(rules::specs::Sheet::count_of))]
 pub fn count_of(s: &[u8]) -> usize
     requires { 2 ≤ length s.now }
     ensures { (result ≡ count_of s.now) × (result < 1024) }
@@ -31,26 +36,48 @@ pub fn count_of(s: &[u8]) -> usize
     get_bits(s, 6, 10) as usize
 }
 
-// Unpacks the fields of a sheet's n nodes to a byte each: 16 times the kind field, plus the position field.
+// The kind of a node with these fields. The kind field is cut to its two bits, so that the match needs no branch.
+#[tactic(auto, unfolding(crate::specs::Told::kind_at, crate::specs::Fields::entry_in, rules::specs::Sheet::kind_in))]
+pub fn kind_of(fields: u8) -> Kind
+    requires { fields < 64 }
+    ensures { result ≡ kind_at (entry_in fields) }
+{
+    match fields / 16 % 4 {
+        0 => Kind::B,
+        1 => Kind::M,
+        2 => Kind::E,
+        _ => Kind::N,
+    }
+}
+
+// How many wires a node with these fields has above its own, or above it, where it is a blank.
+#[tactic(auto, unfolding(crate::specs::Told::above_at, crate::specs::Fields::entry_in))]
+pub fn above_of(fields: u8) -> u8
+    ensures above { result ≡ above_at (entry_in fields) }
+    ensures few { result < 16 }
+{
+    fields % 16
+}
+
+// Unpacks the fields of a sheet's n nodes to a byte each, lent by the caller: 16 times the kind field, plus the position field, as they stand in the sheet.
 pub fn unpack(s: &[u8], n: usize, fields: &mut [u8])
     requires { Packed s.now n fields.old }
     ensures { Unpacked s.now fields.new }
 {
-    let mut i = unpack_fours(s, n, fields);
-    while i < n {
+    // By index: each is a bit offset too.
+    for i in unpack_fours(s, n, fields)..n {
         fields[i] = get_bits(s, 16 + 6 * i, 6) as u8;
-        i += 1;
     }
 }
 
 // Unpacks the nodes four by four, each four from three bytes, as far as there are four, and returns how many nodes that are.
+// They are written by index: of bytes that chunks_exact_mut lends, a proof knows only how many there are.
 fn unpack_fours(s: &[u8], n: usize, fields: &mut [u8]) -> usize
     requires { Packed s.now n fields.old }
     ensures { (result ≤ n) × (fields.new ≡ filled (fields_of s.now n) fields.old result) }
 {
     let fours = n / 4;
-    let mut k = 0;
-    while k < fours {
+    for k in 0..fours {
         let a = s[3 * k + 2];
         let b = s[3 * k + 3];
         let c = s[3 * k + 4];
@@ -58,12 +85,12 @@ fn unpack_fours(s: &[u8], n: usize, fields: &mut [u8]) -> usize
         fields[4 * k + 1] = a % 4 * 16 + b / 16;
         fields[4 * k + 2] = b % 16 * 4 + c / 64;
         fields[4 * k + 3] = c % 64;
-        k += 1;
     }
     4 * fours
 }
 
 // The bits behind the n nodes of a sheet of the right length, as one number.
+#[tactic(auto, unfolding(rules::specs::Sheet::size), using(crate::proofs::Heads::headed, crate::proofs::Tails::padding_inside, crate::proofs::Tails::got_padding))]
 pub fn padding_of(s: &[u8], n: usize) -> u16
     requires { (head s.now ≡ none) × (n ≡ count_of s.now) }
     ensures { result ≡ padding_of s.now }

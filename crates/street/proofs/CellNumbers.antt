@@ -1,21 +1,22 @@
--- The number of cells that are bytes: its cells are those that it was made of, and one of them is read, put in or cut out by
--- dividing and multiplying by the unit of its place.
+-- The number of labels that are bytes: its bytes are the cells of an order of them, and a label is read, put in or cut out by dividing and multiplying by
+-- the unit of its place.
 use mathlib.Core.Path.{◌≡◌, refl, sym, ap, ap₂, ◌∙◌}
 use mathlib.Core.List.{List, [], ◌∷◌, ◌++◌}
-use Prim.Native.Nat.{ℕ, zero, suc, ◌+◌, ◌*◌, ◌/◌, ◌%◌, ◌^◌, ◌≤◌, ◌<◌}
+use Prim.Native.Nat.{ℕ, zero, suc, ◌+◌, ◌-◌, ◌*◌, ◌/◌, ◌%◌, ◌^◌, ◌≤◌, ◌<◌}
 use native.Mathlib.Nat.{mul_left_comm, add_comm, mul-suc, le-mul_of_pos_right, div-div-eq-div-mul, not-suc-le-zero, le_of_suc-le-suc}
 use native.Mathlib.Omega.{arith}
 use lib.Arith.{digits_div, digits_mod}
-use lib.ListN.{length, get_or, take, drop, take-append-drop, length-append}
-use lib.Pow.{pow-add}
-use lib.Seq.{length-take-le, drop-cons, take_all}
+use lib.ListN.{length, get_or, take, drop, replicate, take-append-drop}
+use lib.Pow.{pow-add, pow_mono}
+use lib.Seq.{length-take-le, drop-cons}
+use Rattle.std.specs.Int.{w64, to_le_bytes, from_le_bytes}
 use Rattle.rules.specs.Basic.{tabulate, put, cut}
 use Rattle.rules.specs.Bits.{Below, nil, cons}
-use Rattle.rules.proofs.Fields.{below-append, below_at, below-drop, below-take}
+use Rattle.rules.proofs.Fields.{below-append, below_at, below-drop, below-from, below-take}
 use Rattle.rules.proofs.Lists.{length-put, length_cut}
-use Rattle.street.proofs.Cells.{six, six-cells}
-use Rattle.street.specs.Order.{capacity}
-use Rattle.street.specs.Cells.{number, cells, Numbered}
+use Rattle.street.proofs.Cells.{Cells, eight-cells, spare}
+use Rattle.street.specs.Order.{capacity, cells_with}
+use Rattle.street.specs.Number.{number, Numbered}
 
 -- ---- the unit of a place
 
@@ -29,7 +30,7 @@ unit-suc k = ap (λ (n : ℕ). 2 ^ n) (mul-suc 8 k ∙ add_comm (8 * k) 8) ∙ p
 above : (o k : ℕ) → o / 256 / unit k ≡ o / unit (suc k)
 above o k = div-div-eq-div-mul o 256 (unit k) ∙ ap (λ (u : ℕ). o / u) (sym (unit-suc k))
 
--- ---- the number of cells
+-- ---- the number of labels
 
 number_append : (a b : List ℕ) → number (a ++ b) ≡ number a + number b * unit (length a)
 unfolding number
@@ -38,34 +39,65 @@ number_append (x ∷ a) b =
     let up = ap (λ (n : ℕ). number b * n) (unit-suc (length a)) ∙ mul_left_comm (number b) 256 (unit (length a)) in
     omega (arith, number_append a b)
 
--- a free cell at the end
-number-free : (l : List ℕ) → number l ≡ number (l ++ (0 ∷ []))
+-- free cells behind them
+number-zeros : (n : ℕ) → number (replicate n 0) ≡ 0
 unfolding number
-number-free [] = refl
-number-free (x ∷ l) = ap (λ (m : ℕ). x + 256 * m) (number-free l)
+number-zeros zero = refl
+number-zeros (suc n) = omega (arith, number-zeros n)
+
+number-free : (l : List ℕ) (n : ℕ) → number (l ++ replicate n 0) ≡ number l
+unfolding number
+number-free [] n = number-zeros n
+number-free (x ∷ l) n = ap (λ (m : ℕ). x + 256 * m) (number-free l n)
 
 number_lt : {l : List ℕ} → Below 256 l → number l < unit (length l)
 unfolding number
 number_lt nil = omega arith
 number_lt (cons {xs = l} h p) = omega (arith, number_lt p, unit-suc (length l))
 
--- ---- the cells of a number
+-- ---- the bytes of a number
 
-cells-number : (n : ℕ) {l : List ℕ} → Below 256 l → n ≤ length l → cells n (number l) ≡ take n l
-unfolding cells number
-cells-number zero p h = refl
-cells-number (suc n) nil h = absurd (not-suc-le-zero h)
-cells-number (suc n) (cons {x} {xs = l} b p) h =
+-- the first n bytes
+unfoldable bytes : ℕ → ℕ → List ℕ
+bytes zero o = []
+bytes (suc n) o = o % 256 ∷ bytes n (o / 256)
+
+bytes-zero : (n : ℕ) → bytes n 0 ≡ replicate n 0
+unfolding bytes
+bytes-zero zero = refl
+bytes-zero (suc n) = ap (λ (r : List ℕ). 0 ∷ r) (bytes-zero n)
+
+bytes-number : (n : ℕ) {l : List ℕ} → Below 256 l → length l ≤ n → bytes n (number l) ≡ l ++ replicate (n - length l) 0
+unfolding bytes number
+bytes-number n nil h = let all : n ≡ n - 0 = omega arith in bytes-zero n ∙ ap (λ (m : ℕ). replicate m 0) all
+bytes-number zero (cons b p) h = absurd (not-suc-le-zero h)
+bytes-number (suc n) (cons {x} {xs = l} b p) h =
     let first : (x + 256 * number l) % 256 ≡ x = omega arith in
     let rest : (x + 256 * number l) / 256 ≡ number l = omega arith in
-    λ i. first i ∷ (ap (cells n) rest ∙ cells-number n p (le_of_suc-le-suc h)) i
+    let fewer : n - length l ≡ suc n - suc (length l) = omega arith in
+    (λ i. first i ∷ (ap (bytes n) rest ∙ bytes-number n p (le_of_suc-le-suc h)) i) ∙ ap (λ (m : ℕ). x ∷ (l ++ replicate m 0)) fewer
 
--- each cell by itself
-pub cells-spelt : (n o : ℕ) → cells (suc n) o ≡ o % 256 ∷ tabulate (λ i. o / unit (suc i) % 256) n
-unfolding cells tabulate
-cells-spelt zero o = refl
-cells-spelt (suc n) o =
-    ap (λ (r : List ℕ). o % 256 ∷ r) (cells-spelt n (o / 256) ∙ (λ j. o / 256 % 256 ∷ tabulate (λ i. above o (suc i) j % 256) n))
+-- each byte by itself
+bytes-spelt : (n o : ℕ) → bytes (suc n) o ≡ o % 256 ∷ tabulate (λ i. o / unit (suc i) % 256) n
+unfolding bytes tabulate
+bytes-spelt zero o = refl
+bytes-spelt (suc n) o =
+    ap (λ (r : List ℕ). o % 256 ∷ r) (bytes-spelt n (o / 256) ∙ (λ j. o / 256 % 256 ∷ tabulate (λ i. above o (suc i) j % 256) n))
+
+-- the eight bytes of the number of labels are the cells of an order of them
+bytes_with : {l : List ℕ} → Below 256 l → length l ≤ capacity → {o : ℕ} → o ≡ number l → to_le_bytes w64 o ≡ cells_with l
+unfolding tabulate
+bytes_with {l} p h {o} e = sym (bytes-spelt 7 o) ∙ ap (bytes 8) e ∙ bytes-number 8 p (omega arith)
+
+-- and their number is that of the cells
+pub numbered : {l nets : List ℕ} {count : ℕ} → Cells l nets count → ((i : ℕ) → get_or nets i 0 < 256) → {r : ℕ} → r ≡ from_le_bytes w64 nets → Numbered l r
+unfolding number tabulate
+numbered {l} {nets} {count} c byte {r} e =
+    let whole : r ≡ number nets = omega (arith, ap number (eight-cells nets c.sound.long)) in
+    record {
+      is = whole ∙ ap number (spare c) ∙ number-free l (8 - length l);
+      bytes = rw c.list at (below-take count (below-from 256 nets (λ i h. byte i)));
+    }
 
 -- ---- a list about a place
 
@@ -81,7 +113,7 @@ cut-split k [] h = absurd (not-suc-le-zero h)
 cut-split zero (y ∷ l) h = refl
 cut-split (suc k) (y ∷ l) h = ap (λ (r : List ℕ). y ∷ r) (cut-split k l (le_of_suc-le-suc h))
 
--- ---- a cell of a number
+-- ---- a label of a number
 
 module _ {l : List ℕ} {o : ℕ} (n : Numbered l o) (k : ℕ) {u : ℕ} (one : u ≡ unit k) (h : k ≤ length l) where
   same : u ≡ unit (length (take k l))
@@ -119,16 +151,16 @@ module _ {l : List ℕ} {o : ℕ} (n : Numbered l o) (k : ℕ) {u : ℕ} (one : 
     put-bytes : Below 256 (put k x l)
     put-bytes = rw put-split at (below-append (below-take k n.bytes) (cons b (below-drop k n.bytes)))
 
-    pub cells-put : (m : ℕ) → m ≤ length l → cells m (o % u + (x + 256 * (o / u)) * u) ≡ take m (put k x l)
-    cells-put m f =
-        ap (cells m) (put-number x) ∙ cells-number m put-bytes (omega (arith, length-put k x l))
-
     -- the sum, and what it is made of
-    pub put-lt : (m : ℕ) → length l ≡ m
-        → (x + 256 * (o / u) < unit (suc m)) × (o % u + (x + 256 * (o / u)) * u < unit (suc m))
-    put-lt m e =
-        let whole : o % u + (x + 256 * (o / u)) * u < unit (suc m) = rw (put-number x, ← e, ← length-put k x l) (number_lt put-bytes) in
-        (omega (arith, le-mul_of_pos_right (x + 256 * (o / u)) unit-pos), whole)
+    pub put-lt : length l < capacity → (x + 256 * (o / u) < 2 ^ 64) × (o % u + (x + 256 * (o / u)) * u < 2 ^ 64)
+    put-lt room =
+        let whole : o % u + (x + 256 * (o / u)) * u < unit (suc (length l)) = rw (put-number x, ← length-put k x l) (number_lt put-bytes) in
+        let top : unit (suc (length l)) ≤ 2 ^ 64 = pow_mono {j = 64} (omega arith) in
+        (omega (arith, le-mul_of_pos_right (x + 256 * (o / u)) unit-pos), omega arith)
+
+    -- its bytes are the cells with x put in
+    pub cells-put : length l < capacity → {bs : List ℕ} → bs ≡ to_le_bytes w64 (o % u + (x + 256 * (o / u)) * u) → bs ≡ cells_with (put k x l)
+    cells-put room e = e ∙ bytes_with put-bytes (omega (arith, length-put k x l)) (put-number x)
 
 module _ {l : List ℕ} {o : ℕ} (n : Numbered l o) (k : ℕ) {u : ℕ} (one : u ≡ unit k) (h : k < length l) where
   pub get_or-number : o / u % 256 ≡ get_or l k 0
@@ -137,46 +169,15 @@ module _ {l : List ℕ} {o : ℕ} (n : Numbered l o) (k : ℕ) {u : ℕ} (one : 
       let first : (get_or l k 0 + 256 * number (drop (suc k) l)) % 256 ≡ get_or l k 0 = omega (arith, below_at n.bytes k 0 h) in
       ap (λ (m : ℕ). m % 256) (high n k one (omega arith) ∙ ap number (drop-cons l k 0 h)) ∙ first
 
-  cut-number : o % u + o / 256 / u * u ≡ number (cut k l ++ (0 ∷ []))
+  cut-number : o % u + o / 256 / u * u ≡ number (cut k l)
   cut-number =
       let next : o / 256 / u ≡ number (drop (suc k) l) = ap (λ (v : ℕ). o / 256 / v) one ∙ above o k ∙ high n (suc k) refl h in
       ap₂ (λ (a b : ℕ). a + b * u) (low n k one (omega arith)) next
       ∙ joined n k one (omega arith) (drop (suc k) l)
       ∙ ap number (cut-split k l h)
-      ∙ number-free (cut k l)
 
-  cut-bytes : Below 256 (cut k l ++ (0 ∷ []))
-  cut-bytes =
-      let bytes = below-append (below-take k n.bytes) (below-drop (suc k) n.bytes) in
-      below-append (rw cut-split at bytes) (cons (omega arith) nil)
+  cut-bytes : Below 256 (cut k l)
+  cut-bytes = rw cut-split at (below-append (below-take k n.bytes) (below-drop (suc k) n.bytes))
 
-  length-freed : length (cut k l ++ (0 ∷ [])) ≡ length l
-  length-freed = omega (arith, length-append (cut k l) (0 ∷ []), length_cut k l h)
-
-  pub cells_cut : (m : ℕ) → length l ≡ m → cells m (o % u + o / 256 / u * u) ≡ cut k l ++ (0 ∷ [])
-  cells_cut m e =
-      ap (cells m) cut-number
-      ∙ cells-number m cut-bytes (omega (arith, length-freed))
-      ∙ take_all m (cut k l ++ (0 ∷ [])) (omega (arith, length-freed))
-
-  pub cut-lt : (m : ℕ) → length l ≡ m → o % u + o / 256 / u * u < unit m
-  cut-lt m e = rw (cut-number, ← e, ← length-freed) (number_lt cut-bytes)
-
--- ---- six cells
-
--- x is what the cell behind i others holds, a byte
-abbrev pub Holds : List ℕ → ℕ → ℕ → Type 0
-Holds l i x = (x ≡ get_or l i 0) × (x < 256)
-
-module _ (l : List ℕ) (long : length l ≡ capacity) where
-  byte : (i x : ℕ) → Holds l i x → get_or l i 0 < 256
-  byte i x h = omega arith
-
-  pub six-number : {a b c d e f : ℕ} → Holds l 0 a → Holds l 1 b → Holds l 2 c → Holds l 3 d → Holds l 4 e → Holds l 5 f
-      → Numbered l (a + 256 * b + 65536 * c + 16777216 * d + 4294967296 * (e + 256 * f))
-  unfolding number tabulate
-  six-number p q r s t v =
-      let bytes : Below 256 (six l) =
-      cons (byte 0 _ p) (cons (byte 1 _ q) (cons (byte 2 _ r) (cons (byte 3 _ s) (cons (byte 4 _ t) (cons (byte 5 _ v) nil))))) in
-      let same = six-cells l long in
-      record { is = omega (arith, ap number same); bytes = rw same at bytes }
+  pub cells_cut : length l ≤ capacity → {bs : List ℕ} → bs ≡ to_le_bytes w64 (o % u + o / 256 / u * u) → bs ≡ cells_with (cut k l)
+  cells_cut few e = e ∙ bytes_with cut-bytes (omega (arith, length_cut k l h)) cut-number

@@ -1,20 +1,18 @@
--- The six cells of an order, spelt out: with one put in or cut out they begin with the order's list after that, and a label's
--- first cell says where it stands in the list.
+-- The cells of an order, of which its list and free cells tell all: they stay so with one put in or cut out, and a label's first cell says where it
+-- stands in the list.
 use mathlib.Core.Path.{◌≡◌, refl, sym, ap, ◌∙◌}
 use mathlib.Core.Bool.{Bool, true, false}
 use mathlib.Core.List.{List, [], ◌∷◌, ◌++◌}
-use Prim.Native.Nat.{ℕ, zero, suc, ◌+◌, ◌-◌, ◌≤◌, ◌<◌}
-use native.Mathlib.Nat.{not-suc-le-zero, le_of_suc-le-suc}
-use native.Mathlib.Numerals.{add-one}
+use Prim.Native.Nat.{ℕ, suc, ◌+◌, ◌-◌, ◌≤◌, ◌<◌}
+use native.Mathlib.Nat.{le_of_suc-le-suc}
 use native.Mathlib.Omega.{arith}
 use lib.Dec.{eqb}
-use lib.ListN.{length, get_or, take, length-append}
-use lib.Seq.{take-append-le, take-take, length-take-le}
+use lib.ListN.{length, get_or, take, replicate, length-append, length-replicate}
+use lib.Seq.{take_at, length-take-le}
 use Rattle.rules.specs.Basic.{pick, tabulate, put, cut}
 use Rattle.rules.specs.Row.{before}
 use Rattle.rules.proofs.Lists.{length-put, length_cut}
-use Rattle.street.specs.declared.Order.{Order}
-use Rattle.street.specs.Order.{capacity, listed, Sound, Inserted, Found, Removed}
+use Rattle.street.specs.Order.{capacity, cells, cells_with, Sound}
 
 -- ---- the cells, one by one
 
@@ -23,98 +21,84 @@ unfolding tabulate
 spelt [] = refl
 spelt (x ∷ l) = ap (λ (r : List ℕ). x ∷ r) (spelt l)
 
-abbrev pub six : List ℕ → List ℕ
-six l = tabulate (λ i. get_or l i 0) 6
+abbrev pub eight : List ℕ → List ℕ
+eight l = tabulate (λ i. get_or l i 0) 8
 
-pub six-cells : (l : List ℕ) → length l ≡ capacity → six l ≡ l
-six-cells l long = ap (tabulate (λ i. get_or l i 0)) (sym long) ∙ spelt l
+pub eight-cells : (l : List ℕ) → length l ≡ cells → eight l ≡ l
+eight-cells l long = ap (tabulate (λ i. get_or l i 0)) (sym long) ∙ spelt l
 
--- ---- the first of them
+-- ---- a list in its cells
 
-put-taken : (n k x : ℕ) (l : List ℕ) → k ≤ n → n < length l → take (suc n) (put k x l) ≡ put k x (take n l)
-unfolding put
-put-taken n zero x l g h = refl
-put-taken n (suc k) x [] g h = absurd (not-suc-le-zero h)
-put-taken zero (suc k) x (y ∷ l) g h = absurd (not-suc-le-zero g)
-put-taken (suc n) (suc k) x (y ∷ l) g h =
-    ap (λ (r : List ℕ). y ∷ r) (put-taken n k x l (le_of_suc-le-suc g) (le_of_suc-le-suc h))
+-- the cells of a list are sound, and have it
+pub record Cells (l nets : List ℕ) (count : ℕ) : Type 0 where
+  pub sound : Sound nets count
+  pub list : take count nets ≡ l
 
-cut-taken : (n k : ℕ) (l r : List ℕ) → k ≤ n → n < length l → take n (cut k l ++ r) ≡ cut k (take (suc n) l)
-unfolding cut
-cut-taken n k [] r g h = absurd (not-suc-le-zero h)
-cut-taken n zero (y ∷ l) r g h = take-append-le n l r (le_of_suc-le-suc h)
-cut-taken zero (suc k) (y ∷ l) r g h = absurd (not-suc-le-zero g)
-cut-taken (suc n) (suc k) (y ∷ l) r g h =
-    ap (λ (m : List ℕ). y ∷ m) (cut-taken n k l r (le_of_suc-le-suc g) (le_of_suc-le-suc h))
+pub cells-of : (l : List ℕ) → length l ≤ capacity → {nets : List ℕ} {count : ℕ} → nets ≡ cells_with l → count ≡ length l → Cells l nets count
+cells-of l h {nets} {count} e n =
+    let list : take count nets ≡ l = ap (take count) e ∙ take_at l (replicate (cells - length l) 0) count (sym n) in
+    record {
+      sound =
+          record {
+            long = omega (arith, ap length e, length-append l (replicate (cells - length l) 0), length-replicate {A = ℕ} (cells - length l) 0);
+            few = omega arith;
+            free = e ∙ ap cells_with (sym list);
+          };
+      list = list;
+    }
 
-module _ (o : Order) (s : Sound o) (k : ℕ) (nets : List ℕ) where
-  pub inserted : (x : ℕ) → k ≤ o.count → o.count < capacity → nets ≡ take capacity (put k x o.nets)
-      → Inserted o k x (record { nets = nets; count = o.count + 1 })
-  inserted x h room e =
-      let cells = ap length e ∙ length-take-le capacity (put k x o.nets) (omega (arith, length-put k x o.nets, s.cells)) in
-      record {
-        sound = record { cells = cells; few = omega arith };
-        list =
-            rw (add-one o.count)
-            (ap (take (suc o.count)) e
-            ∙ take-take (suc o.count) capacity (put k x o.nets) room
-            ∙ put-taken o.count k x o.nets h (omega (arith, s.cells)));
-        count = refl;
-      }
+module _ {l nets : List ℕ} {count : ℕ} (c : Cells l nets count) where
+  counted : count ≡ length l
+  counted = sym (length-take-le count nets (omega (arith, c.sound.few, c.sound.long))) ∙ ap length c.list
 
-  pub removed : k < o.count → nets ≡ cut k o.nets ++ (0 ∷ [])
-      → Removed o k (record { nets = nets; count = o.count - 1 })
-  removed h e =
-      let cells : length nets ≡ capacity =
-      ap length e
-      ∙ omega (arith, length-append (cut k o.nets) (0 ∷ []), length_cut k o.nets (omega (arith, s.cells, s.few)), s.cells) in
-      let all : suc (o.count - 1) ≡ o.count = omega arith in
-      record {
-        sound = record { cells = cells; few = omega (arith, s.few) };
-        list =
-            ap (take (o.count - 1)) e
-            ∙ cut-taken (o.count - 1) k o.nets (0 ∷ []) (omega arith) (omega (arith, s.cells, s.few))
-            ∙ ap (λ (n : ℕ). cut k (take n o.nets)) all;
-        count = omega arith;
-      }
+  pub few : length l ≤ capacity
+  few = omega (arith, counted, c.sound.few)
+
+  pub spare : nets ≡ l ++ replicate (cells - length l) 0
+  spare = c.sound.free ∙ ap cells_with c.list
+
+  pub inserted : (k x : ℕ) → length l < capacity → {after : List ℕ} → after ≡ cells_with (put k x l) → Cells (put k x l) after (count + 1)
+  inserted k x room e = let long = length-put k x l in cells-of (put k x l) (omega arith) e (omega (arith, counted))
+
+  pub removed : (k : ℕ) → k < length l → {after : List ℕ} → after ≡ cells_with (cut k l) → Cells (cut k l) after (count - 1)
+  removed k h e = let shorter = length_cut k l h in cells-of (cut k l) (omega (arith, few)) e (omega (arith, counted))
 
 -- ---- a label's first cell
 
-before-taken : (x n : ℕ) (l : List ℕ) → before x (take n l) ≡ before x l - (before x l - n)
+before-append : (x : ℕ) (l r : List ℕ) → before x l < length l → before x (l ++ r) ≡ before x l
 unfolding before pick
-before-taken x zero l = omega arith
-before-taken x (suc n) [] = omega arith
-before-taken x (suc n) (y ∷ l) = go (eqb y x) (before-taken x n l)
+before-append x [] r h = absurd (omega arith)
+before-append x (y ∷ l) r h = go (eqb y x) (before-append x l r) h
   where
-    go : (b : Bool) → before x (take n l) ≡ before x l - (before x l - n)
-        → pick b 0 (suc (before x (take n l))) ≡ pick b 0 (suc (before x l)) - (pick b 0 (suc (before x l)) - suc n)
-    go true e = omega arith
-    go false e = omega arith
+    go : (t : Bool) → (before x l < length l → before x (l ++ r) ≡ before x l)
+        → pick t 0 (suc (before x l)) < suc (length l) → pick t 0 (suc (before x (l ++ r))) ≡ pick t 0 (suc (before x l))
+    go true f h = refl
+    go false f h = ap suc (f (le_of_suc-le-suc h))
 
--- the first of six tests that passes, where one does
-first_of : (a b c d e f : Bool) (n : ℕ) → n ≡ pick a 0 (suc (pick b 0 (suc (pick c 0 (suc (pick d 0 (suc (pick e 0 (suc (pick f 0 1)))))))))) → n < capacity
+-- the first of six tests that passes, where one does; m is what else there is
+first_of : (a b c d e f : Bool) (n m : ℕ) → n ≡ pick a 0 (suc (pick b 0 (suc (pick c 0 (suc (pick d 0 (suc (pick e 0 (suc (pick f 0 (suc m))))))))))) → n < capacity
     → pick a 0 (pick b 1 (pick c 2 (pick d 3 (pick e 4 5)))) ≡ n
 unfolding pick
-first_of true b c d e f n p h = sym p
-first_of false true c d e f n p h = sym p
-first_of false false true d e f n p h = sym p
-first_of false false false true e f n p h = sym p
-first_of false false false false true f n p h = sym p
-first_of false false false false false true n p h = sym p
-first_of false false false false false false n p h = absurd (omega arith)
+first_of true b c d e f n m p h = sym p
+first_of false true c d e f n m p h = sym p
+first_of false false true d e f n m p h = sym p
+first_of false false false true e f n m p h = sym p
+first_of false false false false true f n m p h = sym p
+first_of false false false false false true n m p h = sym p
+first_of false false false false false false n m p h = absurd (omega arith)
 
-module _ (o : Order) (sound : Sound o) (x : ℕ) (there : before x (listed o) < o.count) where
+module _ {l nets : List ℕ} {count : ℕ} (c : Cells l nets count) (x : ℕ) (there : before x l < length l) where
   abbrev holds : ℕ → Bool
-  holds i = eqb (get_or o.nets i 0) x
+  holds i = eqb (get_or nets i 0) x
 
   -- an open label stands where its first cell is
   pub found : {p q r s t : ℕ}
       → p ≡ pick (holds 4) 4 5 → q ≡ pick (holds 3) 3 p → r ≡ pick (holds 2) 2 q → s ≡ pick (holds 1) 1 r → t ≡ pick (holds 0) 0 s
-      → Found o x t
+      → t ≡ before x l
   unfolding before tabulate
   found {t = t} h₄ h₃ h₂ h₁ h₀ =
       let asked : t ≡ pick (holds 0) 0 (pick (holds 1) 1 (pick (holds 2) 2 (pick (holds 3) 3 (pick (holds 4) 4 5)))) = cc in
-      let taken = before-taken x o.count o.nets in
-      let cells = ap (before x) (six-cells o.nets sound.cells) in
-      let first = first_of (holds 0) (holds 1) (holds 2) (holds 3) (holds 4) (holds 5) (before x o.nets) (sym cells) (omega (arith, sound.few)) in
-      record { place = omega arith; within = omega arith }
+      let own : before x nets ≡ before x l = ap (before x) (spare c) ∙ before-append x l (replicate (cells - length l) 0) there in
+      let spelled = ap (before x) (eight-cells nets c.sound.long) in
+      let first = first_of (holds 0) (holds 1) (holds 2) (holds 3) (holds 4) (holds 5) (before x nets) (pick (holds 6) 0 (suc (pick (holds 7) 0 1))) (sym spelled) (omega (arith, counted c, c.sound.few)) in
+      asked ∙ first ∙ own

@@ -1,6 +1,5 @@
 -- The laws that proofs about orders and places cite.
 pub mod Cells
 pub mod CellNumbers
-pub mod Orders
 pub mod PlaceBits
 pub mod PlaceTable

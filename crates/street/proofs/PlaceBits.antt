@@ -7,7 +7,8 @@ use native.Mathlib.Omega.{arith}
 use lib.Dec.{T, leb, ltb, eqb, leb-zero, leb-suc-zero, leb-suc-suc}
 use lib.Pow.{pow_pos}
 use borrow.Author.Tests.{eq-eqb, le-ltb, lt-ltb, le-leb, leb-true, ltb-true}
-use Rattle.rules.specs.Row.{Kind, N}
+use Rattle.rules.specs.declared.Kind.{Kind}
+use Rattle.rules.specs.declared.Kind.TheVariants.{N}
 use Rattle.rules.specs.Street.{fits_at, last}
 use Rattle.rules.proofs.Fits.{FitsAt, fits_at→, →fits_at, Wired, wired-fits, fits-wired}
 use Rattle.street.specs.Places.{marked, among}

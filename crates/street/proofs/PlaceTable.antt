@@ -10,8 +10,9 @@ use lib.Dec.{ltb}
 use lib.ListN.{length, get_or, set, replicate, length-set, length-replicate, get_or-replicate}
 use lib.Seq.{get_or-set_same, get_or-set_other}
 use borrow.Author.Tests.{ltb-true, ltb-false}
-use Rattle.rules.specs.Row.{Kind, B, M, E, N}
-use Rattle.rules.specs.Sheet.{kind_in}
+use Rattle.rules.specs.declared.Kind.{Kind}
+use Rattle.rules.specs.declared.Kind.TheVariants.{B, M, E, N}
+use Rattle.rules.specs.Sheet.{code}
 use Rattle.rules.specs.Street.{fits_at, counted}
 use Rattle.rules.proofs.Fits.{Wired}
 use Rattle.street.specs.Places.{marked, among, Places}
@@ -72,36 +73,6 @@ filled-start ku kl =
     }
 
 module _ {ku kl i j k m : ℕ} {l : List ℕ} (v : ℕ) (f : Filled ku kl i j k m l) where
-  begin-set : i < 17 → v ≡ among ku kl i → Filled ku kl (suc i) j k m (set l i v)
-  begin-set h e =
-      record {
-        cells = length-set l i v ∙ f.cells;
-        begins = group-next f.begins (omega arith) (omega (arith, f.cells)) e;
-        middles = group-kept v f.middles (λ b g z. omega arith);
-        ends = group-kept v f.ends (λ b g z. omega arith);
-        blanks = group-kept v f.blanks (λ b g z. omega arith);
-      }
-
-  middle-set : j < 16 → v ≡ among ku kl j → Filled ku kl i (suc j) k m (set l (17 + j) v)
-  middle-set h e =
-      record {
-        cells = length-set l (17 + j) v ∙ f.cells;
-        begins = group-kept v f.begins (λ b g z. omega arith);
-        middles = group-next f.middles refl (omega (arith, f.cells)) e;
-        ends = group-kept v f.ends (λ b g z. omega arith);
-        blanks = group-kept v f.blanks (λ b g z. omega arith);
-      }
-
-  end-set : k < 15 → v ≡ among ku kl k → Filled ku kl i j (suc k) m (set l (33 + k) v)
-  end-set h e =
-      record {
-        cells = length-set l (33 + k) v ∙ f.cells;
-        begins = group-kept v f.begins (λ b g z. omega arith);
-        middles = group-kept v f.middles (λ b g z. omega arith);
-        ends = group-next f.ends refl (omega (arith, f.cells)) e;
-        blanks = group-kept v f.blanks (λ b g z. omega arith);
-      }
-
   blank-set : m < 16 → v ≡ among ku kl m → Filled ku kl i j k (suc m) (set l (48 + m) v)
   blank-set h e =
       record {
@@ -111,11 +82,6 @@ module _ {ku kl i j k m : ℕ} {l : List ℕ} (v : ℕ) (f : Filled ku kl i j k 
         ends = group-kept v f.ends (λ b g z. omega arith);
         blanks = group-next f.blanks refl (omega (arith, f.cells)) e;
       }
-
-pub filled_next : {ku kl n : ℕ} {l : List ℕ} (v : ℕ) → Filled ku kl n n n n l → n < 15 → v ≡ among ku kl n
-    → Filled ku kl (suc n) (suc n) (suc n) (suc n) (set (set (set (set l n v) (17 + n) v) (33 + n) v) (48 + n) v)
-filled_next v f h e =
-    blank-set v (end-set v (middle-set v (begin-set v f (omega arith) e) (omega arith) e) h e) (omega arith) e
 
 -- ---- what the cells say then
 
@@ -145,17 +111,16 @@ module _ {ku kl s w : ℕ} {l : List ℕ} (a b : ℕ) {i : ℕ} (at_b : i ≡ s 
       go false e = let many = ltb-false b (suc (ku + kl)) e in late-cell g many ∙ sym (too_many ku kl (suc a) b N (omega arith))
 
 filled-places : {ku kl : ℕ} {l : List ℕ} → ku + kl < 15 → Filled ku kl (ku + kl) (ku + kl) (ku + kl) (suc (ku + kl)) l → Places ku kl l
-unfolding kind_in counted
+unfolding code counted
 filled-places {ku} {kl} {l} few f = record { cells = f.cells; places = places }
   where
-    places : (k a b : ℕ) → k < 4 → b < 16 → marked (get_or l (16 * k + b) 0) a ≡ fits_at (kind_in k) ku kl (suc a) (counted (kind_in k) b)
-    places zero a b h m = wire-cell a b (omega arith) (omega arith) B tt f.begins
-    places (suc zero) a zero h m = none-cell a 16 (omega arith) (omega arith) M tt f.begins (omega arith)
-    places (suc zero) a (suc b) h m = wire-cell a b (omega arith) (omega arith) M tt f.middles
-    places (suc (suc zero)) a zero h m = none-cell a 15 (omega arith) (omega arith) E tt f.middles (omega arith)
-    places (suc (suc zero)) a (suc b) h m = wire-cell a b (omega arith) (omega arith) E tt f.ends
-    places (suc (suc (suc zero))) a b h m = blank-cell a b (omega arith) (omega arith) f.blanks
-    places (suc (suc (suc (suc k)))) a b h m = absurd (omega arith)
+    places : (k : Kind) (a b : ℕ) → b < 16 → marked (get_or l (16 * code k + b) 0) a ≡ fits_at k ku kl (suc a) (counted k b)
+    places B a b m = wire-cell a b (omega arith) (omega arith) B tt f.begins
+    places M a zero m = none-cell a 16 (omega arith) (omega arith) M tt f.begins (omega arith)
+    places M a (suc b) m = wire-cell a b (omega arith) (omega arith) M tt f.middles
+    places E a zero m = none-cell a 15 (omega arith) (omega arith) E tt f.middles (omega arith)
+    places E a (suc b) m = wire-cell a b (omega arith) (omega arith) E tt f.ends
+    places N a b m = blank-cell a b (omega arith) (omega arith) f.blanks
 
 pub filled-end : {ku kl n : ℕ} {l : List ℕ} (v : ℕ) → Filled ku kl n n n n l → n ≡ ku + kl → ku + kl < 15 → v ≡ among ku kl (ku + kl)
     → Places ku kl (set l (48 + (ku + kl)) v)

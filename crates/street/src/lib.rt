@@ -3,52 +3,79 @@
 
 pub mod places;
 
-ghost use Rattle.std.specs.Prelude.{◌≡◌, [], ◌∷◌, ◌++◌, suc, ◌^◌, ◌≤◌, ◌<◌, length, get_or, take};
+ghost use Rattle.std.specs.Prelude.{◌≡◌, [], suc, ◌^◌, ◌≤◌, ◌<◌, length, get_or};
 ghost use Rattle.rules.specs.Basic.{pick, put, cut};
 ghost use Rattle.rules.specs.Row.{before};
 ghost use Rattle.rules.specs.Street.{limits, blank_limits};
-ghost use Rattle.street.specs.Order.{capacity, listed, Sound, Emptied, Inserted, Found, Removed};
-ghost use Rattle.street.specs.Cells.{cells, Numbered};
+ghost use Rattle.street.specs.Order.{capacity};
+ghost use Rattle.street.specs.Number.{Numbered};
 
-use rules::Limits;
+use rules::Limit;
+use std::marker::Model;
 
 // The most nets that can be open: the tracks of two streets of three.
 pub const CAPACITY: usize = 6;
 
-// An order: the labels of the open nets from top to bottom, with their count. Cells past the count are free.
+// The cells of an order: as many bytes as one number has.
+const CELLS: usize = 8;
+
+// An order, which a contract sees as the list of the labels of the open nets, from top to bottom: they are counted, and the cells behind them are free.
+// A struct by value with an array and a count, as the exact rules have it: there is no heap.
 #[derive(Clone, Copy)]
 pub struct Order {
-    pub nets: [u8; CAPACITY],
-    pub count: usize,
+    nets: [u8; CELLS],
+    count: usize,
+}
+
+impl Model for Order {
+    ghost use Rattle.std.specs.Prelude.{ℕ, List, length, take};
+    ghost use Rattle.std.proofs.Common.{arith, sym, length-take-le};
+    ghost use Rattle.street.specs.Order.{cells_with, Sound};
+
+    ghost Value = { List ℕ };
+
+    ghost view = { λ o. take o.count o.nets };
+
+    ghost invariant = { λ o. Sound o.nets o.count };
+
+    ghost inverse = { λ l. record { nets = cells_with l; count = length l } };
+
+    ghost inverse_ok = { λ o h i. record {
+      nets = sym h.free i;
+      count = length-take-le o.count o.nets (omega (arith, h.long, h.few)) i;
+    } };
 }
 
 impl Order {
     // No open nets.
     pub fn new() -> Order
-        ensures { Emptied result }
+        ensures { result ≡ [] }
     {
         Order {
-            nets: [0u8; CAPACITY],
+            nets: [0u8; CELLS],
             count: 0,
         }
     }
 
-    // The order with the label x behind k others.
+    // The order with the label x behind k others. By its number, so that there is no loop and no branch.
     pub fn insert(self, k: usize, x: u8) -> Order
-        requires { Sound self × (self.count < capacity) × (k ≤ self.count) }
-        ensures { Inserted self k x result }
+        requires { (length self < capacity) × (k ≤ length self) }
+        ensures { result ≡ put k x self }
     {
-        let held = self.nets;
-        let nets = with(held, k, x);
-        let count = self.count + 1;
-        Order { nets, count }
+        let o = self.number();
+        let unit = power(8 * k);
+        let after = o % unit + (u64::from(x) + 256 * (o / unit)) * unit;
+        Order {
+            nets: after.to_le_bytes(),
+            count: self.count + 1,
+        }
     }
 
     // How many labels stand before the first x, which is open: it is in the last cell, where it is in none before.
-    // All tests are made, whichever passes, so that none needs a branch.
+    // All tests are made, whichever passes, so that none needs a branch: a row follows no pattern, and `position` would branch at each cell.
     pub fn find(self, x: u8) -> usize
-        requires { Sound self × (before x (listed self) < self.count) }
-        ensures { Found self x result }
+        requires { before x self < length self }
+        ensures { result ≡ before x self }
     {
         let nets = self.nets;
         let fifth = nearer(nets[4] == x, 4, 5);
@@ -58,70 +85,32 @@ impl Order {
 
     // The order without the label behind k others.
     pub fn remove(self, k: usize) -> Order
-        requires { Sound self × (k < self.count) }
-        ensures { Removed self k result }
+        requires { k < length self }
+        ensures { result ≡ cut k self }
     {
-        let held = self.nets;
-        let nets = without(held, k);
-        let count = self.count - 1;
-        Order { nets, count }
+        let o = self.number();
+        let unit = power(8 * k);
+        let without = o % unit + o / 256 / unit * unit;
+        Order {
+            nets: without.to_le_bytes(),
+            count: self.count - 1,
+        }
     }
 
     // The label behind k others.
     pub fn label(self, k: usize) -> u8
-        requires { Sound self × (k < self.count) }
-        ensures { result ≡ get_or (listed self) k 0 }
+        requires { k < length self }
+        ensures { result ≡ get_or self k 0 }
     {
-        let nets = self.nets;
-        (number_of(nets) / power(8 * k) % 256) as u8
+        (self.number() / power(8 * k) % 256) as u8
     }
-}
 
-// Cells with x put behind k others; what the last one held is lost. As one number, so that there is no loop and no branch.
-fn with(nets: [u8; CAPACITY], k: usize, x: u8) -> [u8; CAPACITY]
-    requires { (length nets ≡ capacity) × (k < capacity) }
-    ensures { result ≡ take capacity (put k x nets) }
-{
-    let o = number_of(nets);
-    let unit = power(8 * k);
-    cells_of(o % unit + (wide(x) + 256 * (o / unit)) * unit)
-}
-
-// Cells without the one behind k others, and a free one at the end.
-fn without(nets: [u8; CAPACITY], k: usize) -> [u8; CAPACITY]
-    requires { (length nets ≡ capacity) × (k < capacity) }
-    ensures { result ≡ cut k nets ++ (0 ∷ []) }
-{
-    let o = number_of(nets);
-    let unit = power(8 * k);
-    cells_of(o % unit + o / 256 / unit * unit)
-}
-
-// Cells as one number, the first lowest.
-fn number_of(nets: [u8; CAPACITY]) -> u64
-    requires { length nets ≡ capacity }
-    ensures { Numbered nets result }
-{
-    let low = wide(nets[0])
-        + 256 * wide(nets[1])
-        + 65536 * wide(nets[2])
-        + 16777216 * wide(nets[3]);
-    let high = wide(nets[4]) + 256 * wide(nets[5]);
-    low + 4294967296 * high
-}
-
-// The cells of a number, the first lowest; what is above them is lost.
-fn cells_of(o: u64) -> [u8; CAPACITY]
-    ensures { result ≡ cells capacity o }
-{
-    [
-        (o % 256) as u8,
-        (o / 256 % 256) as u8,
-        (o / 65536 % 256) as u8,
-        (o / 16777216 % 256) as u8,
-        (o / 4294967296 % 256) as u8,
-        (o / 1099511627776 % 256) as u8,
-    ]
+    // The labels as one number, the first lowest.
+    fn number(self) -> u64
+        ensures { Numbered self result }
+    {
+        u64::from_le_bytes(self.nets)
+    }
 }
 
 // Two to the n.
@@ -132,53 +121,46 @@ fn power(n: usize) -> u64
     1u64 << n
 }
 
-// A label as a number of 64 bits.
-fn wide(x: u8) -> u64
-    ensures { (result ≡ x) × (result < 256) }
-{
-    x as u64
-}
-
 // Place i, where the label is there, and else the later place p.
+#[tactic(auto, unfolding(rules::specs::Basic::pick))]
 fn nearer(here: bool, i: usize, p: usize) -> usize
     ensures { result ≡ pick here i p }
 {
-    if here {
-        return i;
-    }
-    p
+    if here { i } else { p }
 }
 
-// Which of the three limits a wire with `above` wires over it, of b at the node, breaks.
-pub fn street_limits(ku: u8, kl: u8, above: usize, b: usize) -> Limits
+// Which of the three limits a wire with `above` wires over it, of b at the node, breaks, if any. Any two numbers of tracks serve, where `Streets` has at most three in each.
+#[tactic(auto, unfolding(rules::specs::Limits::limits, rules::specs::Basic::pick))]
+pub fn street_limits(ku: u8, kl: u8, above: usize, b: usize) -> Option<Limit>
     requires { above < b }
     ensures { result ≡ limits ku kl (suc above) b }
 {
     let upper = ku as usize;
     let lower = kl as usize;
     if upper < above {
-        return Limits::Upper;
+        return Some(Limit::Upper);
     }
     if lower < b - above - 1 {
-        return Limits::Lower;
+        return Some(Limit::Lower);
     }
     if upper + lower < b {
-        return Limits::Sum;
+        return Some(Limit::Sum);
     }
-    Limits::Met
+    None
 }
 
-// Which limit a blank with `above` of b wires over it breaks, of the two streets; where neither, b ≤ Ku + Kl follows.
-pub fn blank_limits(ku: u8, kl: u8, above: usize, b: usize) -> Limits
+// Which limit a blank with `above` of b wires over it breaks, of the two streets, if any; where neither, b ≤ Ku + Kl follows.
+#[tactic(auto, unfolding(rules::specs::Limits::blank_limits, rules::specs::Basic::pick))]
+pub fn blank_limits(ku: u8, kl: u8, above: usize, b: usize) -> Option<Limit>
     requires { above ≤ b }
     ensures { result ≡ blank_limits ku kl above b }
 {
     if (ku as usize) < above {
-        return Limits::Upper;
+        return Some(Limit::Upper);
     }
     if (kl as usize) < b - above {
-        Limits::Lower
+        Some(Limit::Lower)
     } else {
-        Limits::Met
+        None
     }
 }

@@ -1,33 +1,50 @@
 // The places that the limits allow at a node, for every kind and every number of open nets: sixteen bits each, of which bit a is set where a wires may be above.
-ghost use Rattle.std.specs.Prelude.{◌≡◌, ◌+◌, ◌*◌, ◌≤◌, ◌<◌, length, get_or};
-ghost use Rattle.street.specs.Places.{among, marked, Places};
+ghost use Rattle.std.specs.Prelude.{◌≡◌, suc, ◌+◌, ◌≤◌, ◌<◌};
+ghost use Rattle.rules.specs.Limits.{fits_at, counted};
+ghost use Rattle.street.specs.Places.{among, Places};
 
 use crate::power;
+use rules::{Kind, Streets};
 
 // The cells of a table of places: sixteen for each kind.
-pub const CELLS: usize = 64;
+const CELLS: usize = 64;
 
-// The table under Ku and Kl: cell 16 · f + b is that of kind field f, where b nets are open before the node. A wire beside b others has the places of a blank among b wires,
-// as long as both streets together have a track for it too: a B where b nets are open, an M or an E where b + 1 are.
-pub fn legal_places(ku: u8, kl: u8) -> [u16; CELLS]
-    requires { (ku ≤ 3) × (kl ≤ 3) }
-    ensures { Places ku kl result }
-{
-    let upper = ku as usize;
-    let lower = kl as usize;
-    let most = upper + lower;
-    let mut legal = [0u16; CELLS];
-    let mut b = 0;
-    while b < most {
-        let places = places_among(upper, lower, b);
-        legal[b] = places;
-        legal[17 + b] = places;
-        legal[33 + b] = places;
-        legal[48 + b] = places;
-        b += 1;
+// What two streets allow: cell 16 · f + b is that of the kind with kind field f, where b nets are open before the node.
+#[derive(Clone, Copy)]
+pub struct LegalPlaces {
+    pub streets: Streets,
+    cells: [u16; CELLS],
+    ghost places: { Places streets.upper streets.lower cells },
+}
+
+impl LegalPlaces {
+    // The table for two streets. A wire beside b others has the places of a blank among b wires, as long as both streets together have a track for it too: a B where
+    // b nets are open, an M or an E where b + 1 are.
+    pub fn new(streets: Streets) -> LegalPlaces
+        ensures { result.streets ≡ streets }
+    {
+        let upper = streets.upper as usize;
+        let lower = streets.lower as usize;
+        let most = upper + lower;
+        let mut cells = [0u16; CELLS];
+        for b in 0..most {
+            let places = places_among(upper, lower, b);
+            cells[b] = places;
+            cells[17 + b] = places;
+            cells[33 + b] = places;
+            cells[48 + b] = places;
+        }
+        cells[48 + most] = places_among(upper, lower, most);
+        LegalPlaces { streets, cells }
     }
-    legal[48 + most] = places_among(upper, lower, most);
-    legal
+
+    // Whether the limits allow so many wires above a node of this kind, before which b nets are open.
+    pub fn allows(&self, kind: Kind, above: u8, b: usize) -> bool
+        requires { (above < 16) × (b < 16) }
+        ensures { result ≡ fits_at kind self.now.streets.upper self.now.streets.lower (suc above) (counted kind b) }
+    {
+        (self.cells[16 * (kind as usize) + b] >> above) % 2 == 1
+    }
 }
 
 // The places among b wires: at most Ku above, and at most Kl below.
@@ -35,15 +52,7 @@ fn places_among(upper: usize, lower: usize, b: usize) -> u16
     requires { (upper ≤ 3) × (b ≤ upper + lower) }
     ensures { result ≡ among upper lower b }
 {
-    let most = if b < upper { b } else { upper };
-    let least = if lower < b { b - lower } else { 0 };
+    let most = b.min(upper);
+    let least = b.saturating_sub(lower);
     (power(most + 1) - power(least)) as u16
-}
-
-// Whether the table has a place with so many wires above, at a node of this kind field before which b nets are open.
-pub fn is_legal(legal: &[u16; CELLS], kind: u8, above: u8, b: usize) -> bool
-    requires { (length legal.now ≡ 64) × (kind < 4) × (above < 16) × (b < 16) }
-    ensures { result ≡ marked (get_or legal.now (16 * kind + b) 0) above }
-{
-    (legal[16 * (kind as usize) + b] >> above) % 2 == 1
 }

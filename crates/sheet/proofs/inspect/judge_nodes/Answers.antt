@@ -1,10 +1,33 @@
--- `sheet::inspect::judge_nodes` meets its contract: the nodes are legal up to the first fault (`pass_nodes`), which is told there. Assumes nothing.
+-- `sheet::inspect::judge_nodes` meets its contract, by the invariant of Invariants.antt. Assumes nothing.
 use native.Mathlib.Omega.{arith}
-use Rattle.sheet.proofs.Scans.{stretch-fault, stretch-end}
+use Rattle.rules.proofs.Fields.{below_at}
+use Rattle.sheet.proofs.Scans.{ends_open, scan_step, scan-stops, scan-fault, scan-end}
 use Rattle.sheet.proofs.inspect.judge_nodes.Goals as goal
 
-pub returns-then-i-fields : goal.returns-then-i-fields
-returns-then-i-fields c = let m = c.pass_nodes-met in stretch-fault m.ensures (omega arith) c.fault_at.ensures
+pub kind_of-kind-requires : goal.kind_of-kind-requires
+kind_of-kind-requires c = below_at c.requires c.loop-i.i 0 (omega arith)
+
+pub fault_at-requires : goal.fault_at-requires
+fault_at-requires c =
+    let r = rw c.new-legal.ensures at c.if-not-allows.ensures in
+    record {
+      six_bits = below_at c.requires c.loop-i.i 0 (omega arith);
+      few = omega arith;
+      fault = scan-stops c.loop-i.invariant (omega arith) c.kind_of-kind.ensures c.above_of.ensures.above r;
+    }
+
+pub returns-then-not-allows : goal.returns-then-not-allows
+returns-then-not-allows c = scan-fault c.loop-i.invariant (omega arith) c.fault_at.ensures
+
+pub left_open-b-requires : goal.left_open-b-requires
+left_open-b-requires c =
+    let r = rw c.new-legal.ensures at c.if-not-allows.ensures in
+    (omega arith, ends_open c.loop-i.invariant (omega arith) c.kind_of-kind.ensures c.above_of.ensures.above r)
+
+pub loop-i-preserved : goal.loop-i-preserved
+loop-i-preserved c =
+    let r = rw c.new-legal.ensures at c.if-not-allows.ensures in
+    scan_step c.loop-i.invariant (omega arith) c.kind_of-kind.ensures c.above_of.ensures.above r c.left_open-b.ensures
 
 pub returns : goal.returns
-returns c = let m = c.pass_nodes-met in stretch-end m.ensures c.if-i-fields.false
+returns c = scan-end c.loop-i.invariant (omega arith)

@@ -4,9 +4,10 @@ use mathlib.Core.List.{List}
 use Prim.Native.Nat.{ℕ}
 use native.Mathlib.Omega.{arith}
 use lib.ListN.{length, set}
+use Rattle.rules.proofs.Fields.{below_at}
 use Rattle.sheet.specs.Fields.{row_in}
 use Rattle.sheet.proofs.Walks.{walk_start, walk-ready, walk-label, walk_step, length-row_in}
-use Rattle.sheet.proofs.Fills.{fill-length, fill_step, fill_end}
+use Rattle.sheet.proofs.Fills.{fill_step, fill_end}
 use Rattle.sheet.proofs.reader.write_row.Goals as goal
 
 pub loop-i-init : goal.loop-i-init
@@ -16,37 +17,32 @@ loop-i-init c =
       ku = r.0;
       kl = r.1;
       clear = r.2;
-      walk = walk_start c.args.fields.now r.2 c.new-order.result c.new-order.ensures;
+      walk = walk_start c.args.fields.now r.2 c.new.result c.new.ensures;
       row-so-far = refl;
     }
 
-pub touch-step-requires : goal.touch-step-requires
-touch-step-requires c =
+pub touch-requires : goal.touch-requires
+touch-requires c =
     let l = c.loop-i in
-    walk-ready c.args.fields.now l.invariant.clear l.i (omega arith) l.order l.begun l.invariant.walk
-
-pub bounds-row-i : goal.bounds-row-i
-bounds-row-i c =
-    let l = c.loop-i in
-    let fs = c.args.fields.now in
-    let q = ap length l.invariant.row-so-far in
-    omega (arith, fill-length (row_in fs) c.args.row.now l.i (omega (arith, length-row_in fs)) (omega (arith, c.requires.fields_in_bounds)), c.requires.fields_in_bounds)
+    record {
+      six_bits = below_at l.invariant.clear.low l.i 0 (omega arith);
+      ready = walk-ready c.args.fields.now l.invariant.clear l.i (omega arith) l.walk l.invariant.walk;
+    }
 
 pub loop-i-preserved : goal.loop-i-preserved
 loop-i-preserved c =
     let fs = c.args.fields.now in
     let l = c.loop-i in
-    let t = c.touch-step in
     let w = l.invariant in
-    let x = walk-label fs w.clear l.i (omega arith) l.order l.begun w.walk t.result t.ensures in
+    let x = walk-label fs w.clear l.i (omega arith) l.walk w.walk c.touch.ensures.label in
     record {
       ku = w.ku;
       kl = w.kl;
       clear = w.clear;
-      walk = walk_step fs w.clear l.i (omega arith) l.order l.begun w.walk t.result t.ensures;
+      walk = walk_step fs w.clear l.i (omega arith) l.walk w.walk c.touch.ensures.walk;
       row-so-far =
-          ap (λ (r : List ℕ). set r l.i t.result.label) w.row-so-far
-          ∙ fill_step (row_in fs) c.args.row.now l.i t.result.label (omega (arith, length-row_in fs)) (omega arith) x;
+          ap (λ (r : List ℕ). set r l.i c.touch.result) w.row-so-far
+          ∙ fill_step (row_in fs) c.args.row.now l.i c.touch.result (omega (arith, length-row_in fs)) (omega arith) x;
     }
 
 pub returns : goal.returns

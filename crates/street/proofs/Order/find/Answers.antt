@@ -4,10 +4,5 @@ use Rattle.street.proofs.Order.find.Goals as goal
 
 pub returns : goal.returns
 returns c =
-    let fourth = c in
-    let third = fourth in
-    let second = third in
-    let first = second in
-    let s = first in
-    found s.args.self s.requires.0 s.args.x s.requires.1 first.nearer-fifth.ensures second.nearer.ensures third.nearer-third.ensures
-    fourth.nearer-2.ensures c.nearer-3.ensures
+    found (record { sound = c.self.invariant; list = c.self.view_is }) c.args.x c.requires c.nearer-fifth.ensures c.nearer.ensures c.nearer-third.ensures
+    c.nearer-2.ensures c.nearer-3.ensures
