@@ -1,5 +1,3 @@
-pub mod Tracks
-pub mod Stamping
 pub mod Cells
 pub mod Aims
 pub mod Sweeps

@@ -11,11 +11,9 @@ use Rattle.rules.specs.Basic.{pick}
 use Rattle.rules.specs.Film.{Wire, Sweep, bent, drawn, climb, sink, gap}
 use Rattle.film.specs.declared.moves.Pen.{Pen}
 use Rattle.film.specs.declared.moves.Node.{Node}
-use Rattle.film.specs.declared.wires.Wires.{Wires}
 use Rattle.film.specs.Stamps.{laid}
-use Rattle.film.specs.Wires.{missing, listed, Sound}
+use Rattle.film.specs.Wires.{missing}
 use Rattle.film.specs.Moves.{aim, Reaches, Steady, Swept}
-use Rattle.film.proofs.Cells.{length-listed}
 
 -- nothing moves
 abbrev still : ℕ → List Wire → Sweep
@@ -46,15 +44,15 @@ gap-still : (t : ℕ → ℕ) (x : ℕ) (ws : List Wire) → There t 0 ws → ga
 unfolding gap
 gap-still t x ws h = rw (climb-still t 0 (suc x) ws h, sink-still t 0 (suc x) ws h)
 
-pub steady-swept : (n : Node) (p : Pen) (film : List ℕ) (k : ℕ) → Sound p.wires → 1 ≤ p.column → Reaches n p.wires p.wires.count
-    → Swept (gap (aim n) (p.column - 1) (listed p.wires)) k p film p film
+pub steady-swept : (n : Node) (p : Pen) (k : ℕ) → 1 ≤ p.column → Reaches n p.wires → Swept (gap (aim n) (p.column - 1) p.wires) k p p
 unfolding laid
-steady-swept n p film k s h r =
-    let e : gap (aim n) (p.column - 1) (listed p.wires) ≡ still (suc (p.column - 1)) (listed p.wires) =
-    gap-still (aim n) (p.column - 1) (listed p.wires) (λ i l. r i (omega (arith, length-listed p.wires s)) ∙ ap (aim n) (omega arith)) in
+steady-swept n p k h r =
+    let e : gap (aim n) (p.column - 1) p.wires ≡ still (suc (p.column - 1)) p.wires =
+    gap-still (aim n) (p.column - 1) p.wires (λ i l. r i l ∙ ap (aim n) (omega arith)) in
     rw e
     (record {
-      sound = s;
+      same = refl;
+      nets = refl;
       count = refl;
       list = refl;
       column = omega arith;
@@ -64,6 +62,6 @@ steady-swept n p film k s h r =
       room = omega arith;
     })
 
-pub steady-reaches : (n : Node) (w : Wires) (b : Bool) → Steady n w b → b ≡ true → Reaches n w w.count
-steady-reaches n w true r e = r
-steady-reaches n w false r e = let z : ◌≡◌ {A = ℕ} 0 1 = cc in absurd (omega arith)
+pub steady-reaches : (n : Node) (ws : List Wire) (b : Bool) → Steady n ws b → b ≡ true → Reaches n ws
+steady-reaches n ws true r e = r
+steady-reaches n ws false r e = let z : ◌≡◌ {A = ℕ} 0 1 = cc in absurd (omega arith)

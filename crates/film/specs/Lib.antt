@@ -1,4 +1,3 @@
-pub mod Heights
 pub mod Stamps
 pub mod Wires
 pub mod Moves

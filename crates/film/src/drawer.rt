@@ -1,40 +1,30 @@
 // From a sheet to a film: the records are counted first, and drawn once they are known to fit.
-ghost use Rattle.std.specs.Prelude.{◌≡◌, ℕ, ◌*◌, ◌≤◌, length};
+ghost use Rattle.std.specs.Prelude.{◌≡◌, ℕ, ◌*◌, ◌≤◌, ◌<◌, length};
 ghost use Rattle.std.proofs.Math.Option.{none};
 ghost use Rattle.rules.specs.Judgement.{judge};
 ghost use Rattle.sheet.specs.Fields.{entry_in, Unpacked, Faultless};
 ghost use Rattle.sheet.specs.Told.{above_at};
 ghost use Rattle.film.specs.Stamps.{each};
+ghost use Rattle.film.specs.Moves.{SameFilm, Started};
 ghost use Rattle.film.specs.Walks.{NodeOf, Due, Visited, records_in, Lain, Drawn};
 
-use crate::levels::upper_at;
-use crate::moves::{Node, Pen, cross};
-use crate::nodes::{begin, end, pass, skip};
-use crate::wires::Wires;
-use rules::Drawing;
-use sheet::inspect::{Inspected, inspect};
-use sheet::layout::{count_of, upper_of};
+use crate::moves::{Node, Pen};
+use rules::{DrawError, Drawing, Kind};
+use sheet::inspect::inspect;
+use sheet::layout::{above_of, count_of, kind_of, upper_of};
+use slots::levels::upper_at;
 
 // The columns from one node to the next.
 const PITCH: usize = 16;
-
-// The film so far, and the number of nets begun.
-#[derive(Clone, Copy)]
-pub struct Walk {
-    pub pen: Pen,
-    pub begun: usize,
-}
 
 // Draws the film of a sheet. The records fill the start of the film; a refusal leaves it as it was.
 pub fn draw(s: &[u8], film: &mut [u8]) -> Drawing
     ensures { Drawn s.now film.old result film.new }
 {
+    // A byte for each node that a sheet can have: there is no heap.
     let mut fields = [0u8; 512];
-    let found = inspect(s, &mut fields);
-    match found {
-        Inspected::Legal => draw_legal(s, &fields, film),
-        Inspected::Unfit(e) => Drawing::Unfit(e),
-    }
+    inspect(s, &mut fields)?;
+    draw_legal(s, &fields, film)
 }
 
 // 21, and then the film, of a sheet without a fault, whose fields are unpacked.
@@ -47,10 +37,10 @@ fn draw_legal(s: &[u8], fields: &[u8], film: &mut [u8]) -> Drawing
     let ku = upper_of(s) as usize;
     let count = count_records(nodes, ku);
     if film.len() < 5 * count {
-        return Drawing::FilmShort;
+        return Err(DrawError::FilmShort);
     }
     lay(nodes, ku, film);
-    Drawing::Film(count)
+    Ok(count)
 }
 
 // The number of records of nodes without a fault: they are laid on no film.
@@ -67,61 +57,47 @@ fn lay(fields: &[u8], ku: usize, film: &mut [u8]) -> usize
     requires { (kl : ℕ) × Faultless ku kl fields.now }
     ensures { Lain ku fields.now film.old result film.new }
 {
-    let wires = Wires::new();
-    let pen = Pen {
-        wires,
-        column: 1,
-        drawn: 0,
-    };
-    let mut walk = Walk { pen, begun: 0 };
-    let mut i = 0;
-    while i < fields.len() {
-        let node = node_of(fields[i], ku);
-        walk = visit(film, walk, node, i);
-        i += 1;
-    }
-    let last = walk.pen;
-    last.drawn
+    let mut pen = Pen::new(film);
+    pen.visit_all(fields, ku);
+    pen.drawn
 }
 
-// Draws node i, from 0, and the moves before it.
-fn visit(film: &mut [u8], walk: Walk, node: Node, i: usize) -> Walk
-    requires { Due walk node i }
-    ensures { Visited walk node i film.old result film.new }
-{
-    let kind = node.kind;
-    let pen = walk.pen;
-    let begun = walk.begun;
-    let above = node.above;
-    let crossed = cross(film, pen, node);
-    let x = (PITCH * i) as u16;
-    match kind {
-        0 => Walk {
-            pen: begin(film, crossed, node, begun, x),
-            begun: begun + 1,
-        },
-        1 => Walk {
-            pen: pass(film, crossed, above, x),
-            begun,
-        },
-        2 => Walk {
-            pen: end(film, crossed, above, x),
-            begun,
-        },
-        _ => Walk {
-            pen: skip(crossed, x),
-            begun,
-        },
+impl Pen<'_> {
+    // Draws nodes without a fault, from the first on.
+    fn visit_all(&mut self, fields: &[u8], ku: usize)
+        requires { ((kl : ℕ) × Faultless ku kl fields.now) × Started self.old }
+        ensures same { SameFilm self.old self.new }
+        ensures laid { Lain ku fields.now self.old.film.now self.new.drawn self.new.film.now }
+    {
+        for (i, field) in fields.iter().enumerate() {
+            self.visit(node_of(*field, ku), i);
+        }
+    }
+
+    // Draws node i, from 0, and the moves before it.
+    fn visit(&mut self, node: Node, i: usize)
+        requires { Due self.old node i }
+        ensures { Visited node i self.old self.new }
+    {
+        self.cross(node);
+        let x = (PITCH * i) as u16;
+        match node.kind {
+            Kind::B => self.begin(node, x),
+            Kind::M => self.pass(node.above, x),
+            Kind::E => self.end(node.above, x),
+            Kind::N => self.skip(x),
+        }
     }
 }
 
 // The node with these fields.
 fn node_of(fields: u8, ku: usize) -> Node
-    requires { (ku ≤ 3) × (above_at (entry_in fields) ≤ 3) }
+    requires six_bits { fields < 64 }
+    requires within { (ku ≤ 3) × (above_at (entry_in fields) ≤ 3) }
     ensures { NodeOf (entry_in fields) ku result }
 {
-    let kind = fields / 16;
-    let above = (fields % 16) as usize;
+    let kind = kind_of(fields);
+    let above = usize::from(above_of(fields));
     Node {
         kind,
         upper: upper_at(kind, ku, above),

@@ -2,8 +2,6 @@
 #![tactic(auto)]
 
 pub mod drawer;
-mod levels;
 pub mod moves;
 pub mod nodes;
-mod records;
-pub mod wires;
+pub mod open_wires;

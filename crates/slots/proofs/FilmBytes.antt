@@ -134,7 +134,7 @@ row-filled (r ∷ rs) film i h =
     ∙ append_assoc (take (5 * i) film) b (film_bytes rs ++ drop (5 * i + 5 * suc (length rs)) film)
     ∙ ap (λ (l : List ℕ). take (5 * i) film ++ l) (sym (append_assoc b (film_bytes rs) (drop (5 * i + 5 * suc (length rs)) film)))
 
-row_written : (rs : List Rec) (film : List ℕ) → 5 * length rs ≤ length film → in_row stamped 0 rs film ≡ written (film_bytes rs) film
+pub row_written : (rs : List Rec) (film : List ℕ) → 5 * length rs ≤ length film → in_row stamped 0 rs film ≡ written (film_bytes rs) film
 unfolding written
 row_written rs film h =
     let n : 5 * 0 + 5 * length rs ≡ length (film_bytes rs) = omega (arith, length-film_bytes rs) in

@@ -11,8 +11,10 @@ use borrow.Author.Tests.{eqb-true, eqb-false, eq-eqb, ne_eqb}
 use Rattle.rules.specs.Basic.{pick}
 use Rattle.rules.specs.Film.{Rec, across, upright, axis, rec_bits}
 use Rattle.wires.specs.Laying.{Laying, changed, in_slot, with_vertical, lay, laid}
-use Rattle.slots.specs.Stamps.{columns, stamp, stamped}
-use Rattle.slots.specs.Slots.{lent, read, laying, Arrays, Room, Laid, vertical, RunBegun, Turned, Began, Stubbed, Ended}
+use Rattle.slots.specs.Stamps.{stamp, stamped}
+use Rattle.slots.specs.declared.runs.Slots.{Slots}
+use Rattle.slots.specs.Slots.{lent, read, laying, Arrays, Room, Laid, vertical, Turned, Began, Ended}
+use Rattle.slots.specs.Runs.{lends, RunBegun, Stubbed}
 
 -- ---- one array
 
@@ -39,34 +41,11 @@ each_set P d (x ∷ l) (suc q) k (suc i) h = each_set (λ j. P (suc j)) d l q k 
 pub room-set : (l : List ℕ) (n i k j : ℕ) → i ≤ k → Room (j + k) l → Room j (set l n (read l n + i))
 room-set l n i k j w r m = each_set (λ _ x. x + j < 65536) 0 l n (omega (arith, r n)) m (omega (arith, r m))
 
-pub room-less : (l : List ℕ) (k j : ℕ) → j ≤ k → Room k l → Room j l
-room-less l k j w r m = omega (arith, r m)
-
 -- ---- the three arrays
 
-module _ {next held starts : List ℕ} {n : ℕ} (h : n < 256) (a : Arrays next held starts) where
-  pub arrays-next : (v : ℕ) → 1 ≤ v → Arrays (set next n v) held starts
-  arrays-next v w =
-      record {
-        nexts = length-set next n v ∙ a.nexts;
-        helds = a.helds;
-        begins = a.begins;
-        from_one = λ m k. each_set (λ _ x. 1 ≤ x) 0 next n w m (a.from_one m k);
-        since = a.since;
-      }
-
-  pub arrays-held : (v : ℕ) → Arrays next (set held n v) starts
-  arrays-held v = record { nexts = a.nexts; helds = length-set held n v ∙ a.helds; begins = a.begins; from_one = a.from_one; since = a.since }
-
-  pub arrays-starts : (x : ℕ) → x < columns → Arrays next held (set starts n x)
-  arrays-starts x w =
-      record {
-        nexts = a.nexts;
-        helds = a.helds;
-        begins = length-set starts n x ∙ a.begins;
-        from_one = a.from_one;
-        since = λ m. each_set (λ _ y. y < columns) 0 starts n w m (a.since m);
-      }
+pub arrays-held : {next held starts : List ℕ} (n v : ℕ) → Arrays next held starts → Arrays next (set held n v) starts
+arrays-held {held = held} n v a =
+    record { nexts = a.nexts; helds = length-set held n v ∙ a.helds; begins = a.begins; from_one = a.from_one; since = a.since }
 
 -- ---- one record laid
 
@@ -107,96 +86,118 @@ module _ (film next held : List ℕ) (n : ℕ) where
 
 -- ---- the records of one net laid
 
-pub stubbed : (f ns : List ℕ) (net h x : ℕ) {f₁ : List ℕ} → 1 ≤ read ns net → f₁ ≡ stamp f (read ns net - 1) (rec_bits (vertical net axis h x))
-    → Stubbed net h x f ns f₁ (set ns net (read ns net + 1))
-stubbed f ns net h x w p = record { film = p ∙ sym (in_slot-stamp (read ns net) (vertical net axis h x) f w); next = refl }
+module _ (p : Slots) (net h x : ℕ) (small : net < 256) where
+  wide : net < length p.next
+  wide = omega (arith, p.arrays.nexts, small)
 
-module _ (f ns hs ss : List ℕ) (net h x : ℕ) (small : net < 256) (near : x < columns) (a : Arrays ns hs ss) where
-  wide : net < length ns
-  wide = omega (arith, a.nexts, small)
+  deep : net < length p.held
+  deep = omega (arith, p.arrays.helds, small)
 
-  deep : net < length hs
-  deep = omega (arith, a.helds, small)
+  pub first : 1 ≤ read p.next net
+  first = p.arrays.from_one net small
 
-  first : 1 ≤ read ns net
-  first = a.from_one net small
+  -- a run goes to the slot that it holds, a vertical to the net's next
+  run-laid : (f : List ℕ) {f₁ : List ℕ} (o : ℕ) → 1 ≤ read p.held net → f₁ ≡ stamp f (read p.held net - 1) (rec_bits (across net o (read p.starts net) x))
+      → f₁ ≡ in_slot stamped (read p.held net) (across net o (read p.starts net) x) f
+  run-laid f o e q = q ∙ sym (in_slot-stamp (read p.held net) (across net o (read p.starts net) x) f e)
 
-  module _ {ns' hs' ss' : List ℕ} (b : RunBegun net x ns hs ss ns' hs' ss') where
-    begun-arrays : Arrays ns' hs' ss'
-    begun-arrays =
-        rw (b.next, b.held, b.starts)
-        (arrays-starts small (arrays-held small (arrays-next small a (read ns net + 2) (omega arith)) (read ns net + 1)) x near)
+  pub wall-laid : (f : List ℕ) {f₁ : List ℕ} (a b : ℕ) → f₁ ≡ stamp f (read p.next net - 1) (rec_bits (vertical net a b x))
+      → f₁ ≡ in_slot stamped (read p.next net) (vertical net a b x) f
+  wall-laid f a b q = q ∙ sym (in_slot-stamp (read p.next net) (vertical net a b x) f first)
 
-    begun-room : (j : ℕ) → Room (j + 2) ns → Room j ns'
-    begun-room j r = rw b.next (room-set ns net 2 2 j (omega arith) r)
+  module _ (q r : Slots) (b : RunBegun net x q r) (ns : q.next ≡ p.next) (hs : q.held ≡ p.held) (ss : q.starts ≡ p.starts) where
+    begun-room : (j : ℕ) → Room (j + 2) p.next → Room j r.next
+    begun-room j w = rw (b.next, ns) (room-set p.next net 2 2 j (omega arith) w)
 
-    pub turned : (o : ℕ) {f₁ f₂ : List ℕ} → 1 ≤ read hs net → f₁ ≡ stamp f (read hs net - 1) (rec_bits (across net o (read ss net) x))
-        → f₂ ≡ stamp f₁ (read ns net - 1) (rec_bits (vertical net h o x)) → Turned net o h x (lent f ns hs ss) (lent f₂ ns' hs' ss')
+    next-begun : r.next ≡ set p.next net (read p.next net + 2)
+    next-begun = rw (← ns) b.next
+
+    held-begun : r.held ≡ set p.held net (read p.next net + 1)
+    held-begun = rw (← ns, ← hs) b.held
+
+    starts-begun : r.starts ≡ set p.starts net x
+    starts-begun = rw (← ss) b.starts
+
+    pub turned : (o : ℕ) {f₁ : List ℕ} → 1 ≤ read p.held net → f₁ ≡ stamp p.film.now (read p.held net - 1) (rec_bits (across net o (read p.starts net) x))
+        → q.film.now ≡ stamp f₁ (read p.next net - 1) (rec_bits (vertical net h o x)) → Turned net o h x (lends p) (lends r)
     unfolding laid
-    turned o {f₁} {f₂} e p q =
-        let run = across net o (read ss net) x in
-        let v = vertical net h o x in
-        let film₁ : f₁ ≡ in_slot stamped (read hs net) run f = p ∙ sym (in_slot-stamp (read hs net) run f e) in
-        let film₂ : f₂ ≡ in_slot stamped (read ns net) v (in_slot stamped (read hs net) run f) =
-        q ∙ sym (in_slot-stamp (read ns net) v f₁ first) ∙ ap (in_slot stamped (read ns net) v) film₁ in
-        let again : hs' ≡ set (set hs net 0) net (read ns net + 1) = b.held ∙ sym (set-set hs net 0 (read ns net + 1)) in
-        let cleared : net < length (set hs net 0) = omega (arith, length-set hs net 0, deep) in
+    turned o {f₁} e d v =
+        let run = across net o (read p.starts net) x in
+        let wall = vertical net h o x in
+        let f = p.film.now in
+        let film : r.film.now ≡ in_slot stamped (read p.next net) wall (in_slot stamped (read p.held net) run f) =
+        b.film ∙ wall-laid f₁ h o v ∙ ap (in_slot stamped (read p.next net) wall) (run-laid f o e d) in
+        let again : r.held ≡ set (set p.held net 0) net (read p.next net + 1) = held-begun ∙ sym (set-set p.held net 0 (read p.next net + 1)) in
+        let cleared : net < length (set p.held net 0) = omega (arith, length-set p.held net 0, deep) in
         record {
           laid =
               record {
                 records =
-                    on_same film₂ b.next again
-                    ∙ sym (ap (λ d. lay stamped d v) (lay-run f ns hs net o (read ss net) x deep)
-                    ∙ lay-first (in_slot stamped (read hs net) run f) ns (set hs net 0) net _ x _ wide cleared (get_or-set_same hs net 0 0 deep));
-                arrays = begun-arrays;
+                    on_same film next-begun again
+                    ∙ sym (ap (λ d. lay stamped d wall) (lay-run f p.next p.held net o (read p.starts net) x deep)
+                    ∙ lay-first (in_slot stamped (read p.held net) run f) p.next (set p.held net 0) net _ x _ wide cleared (get_or-set_same p.held net 0 0 deep));
+                arrays = r.arrays;
                 room = begun-room;
               };
-          held = b.held;
-          starts = b.starts;
+          held = held-begun;
+          starts = starts-begun;
         }
 
-    pub began : {f₁ : List ℕ} → read hs net ≡ 0 → f₁ ≡ stamp f (read ns net - 1) (rec_bits (vertical net axis h x))
-        → Began net h x (lent f ns hs ss) (lent f₁ ns' hs' ss')
+    pub began : read p.held net ≡ 0 → q.film.now ≡ stamp p.film.now (read p.next net - 1) (rec_bits (vertical net axis h x))
+        → Began net h x (lends p) (lends r)
     unfolding laid
-    began {f₁} e p =
-        let v = vertical net axis h x in
+    began e v =
         record {
           laid =
               record {
-                records = on_same (p ∙ sym (in_slot-stamp (read ns net) v f first)) b.next b.held ∙ sym (lay-first f ns hs net _ x _ wide deep e);
-                arrays = begun-arrays;
+                records =
+                    on_same (b.film ∙ wall-laid p.film.now axis h v) next-begun held-begun
+                    ∙ sym (lay-first p.film.now p.next p.held net _ x _ wide deep e);
+                arrays = r.arrays;
                 room = begun-room;
               };
-          held = b.held;
-          starts = b.starts;
+          held = held-begun;
+          starts = starts-begun;
         }
 
-  pub ended : {f₁ f₂ ns' : List ℕ} → 1 ≤ read hs net → Stubbed net h x f ns f₁ ns' → f₂ ≡ stamp f₁ (read hs net - 1) (rec_bits (across net h (read ss net) x))
-      → Ended net h x (lent f ns hs ss) (lent f₂ ns' (set hs net 0) ss)
-  unfolding laid
-  ended {f₁} {f₂} e s q =
-      let run = across net h (read ss net) x in
-      let v = vertical net axis h x in
-      let stub = in_slot stamped (read ns net) v f in
-      let film₂ : f₂ ≡ in_slot stamped (read hs net) run stub = q ∙ sym (in_slot-stamp (read hs net) run f₁ e) ∙ ap (in_slot stamped (read hs net) run) s.film in
-      record {
-        laid =
-            record {
-              records =
-                  on_same {hs = set hs net 0} {hs' = set hs net 0} film₂ s.next refl
-                  ∙ sym (ap (λ d. lay stamped d run) (lay-touch f ns hs net _ x _ wide e) ∙ lay-run stub (set ns net (read ns net + 1)) hs net h (read ss net) x deep);
-              arrays = rw s.next (arrays-held small (arrays-next small a (read ns net + 1) (omega arith)) 0);
-              room = λ j r. rw s.next (room-set ns net 1 1 j (omega arith) r);
-            };
-        held = refl;
-        starts = refl;
-      }
+  module _ (q : Slots) (s : Stubbed net h x p q) (e : 1 ≤ read p.held net) where
+    passed-room : (j : ℕ) → Room (j + 1) p.next → Room j q.next
+    passed-room j w = rw s.next (room-set p.next net 1 1 j (omega arith) w)
 
-  pub passed : {f₁ ns' : List ℕ} → 1 ≤ read hs net → Stubbed net h x f ns f₁ ns' → Laid (vertical net axis h x ∷ []) 1 (lent f ns hs ss) (lent f₁ ns' hs ss)
-  unfolding laid
-  passed e s =
-      record {
-        records = on_same {hs = hs} {hs' = hs} s.film s.next refl ∙ sym (lay-touch f ns hs net _ x _ wide e);
-        arrays = rw s.next (arrays-next small a (read ns net + 1) (omega arith));
-        room = λ j r. rw s.next (room-set ns net 1 1 j (omega arith) r);
-      }
+    pub ended : {f : List ℕ} → f ≡ stamp q.film.now (read q.held net - 1) (rec_bits (across net h (read q.starts net) x))
+        → Ended net h x (lends p) (lent f q.next (set q.held net 0) q.starts)
+    unfolding laid
+    ended {f} d =
+        let run = across net h (read p.starts net) x in
+        let stub = in_slot stamped (read p.next net) (vertical net axis h x) p.film.now in
+        let held : set q.held net 0 ≡ set p.held net 0 = ap (λ (l : List ℕ). set l net 0) s.held in
+        let film : f ≡ in_slot stamped (read p.held net) run stub =
+        run-laid q.film.now h e (rw (s.held, s.starts) at d) ∙ ap (in_slot stamped (read p.held net) run) s.film in
+        record {
+          laid =
+              record {
+                records =
+                    on_same film s.next held
+                    ∙ sym (ap (λ d. lay stamped d run) (lay-touch p.film.now p.next p.held net _ x _ wide e)
+                    ∙ lay-run stub (set p.next net (read p.next net + 1)) p.held net h (read p.starts net) x deep);
+                arrays = arrays-held net 0 q.arrays;
+                room = passed-room;
+              };
+          held = held;
+          starts = s.starts;
+        }
+
+    pub passed : Laid (vertical net axis h x ∷ []) 1 (lends p) (lends q)
+    unfolding laid
+    passed =
+        record {
+          records = on_same s.film s.next s.held ∙ sym (lay-touch p.film.now p.next p.held net _ x _ wide e);
+          arrays = q.arrays;
+          room = passed-room;
+        }
+
+-- a stub begins on the level of the pins
+pub stub-laid : (f ns : List ℕ) (net h x : ℕ) {f₁ : List ℕ} {i a : ℕ} → 1 ≤ read ns net → i ≡ read ns net - 1 → a ≡ axis
+    → f₁ ≡ stamp f i (rec_bits (vertical net a h x)) → f₁ ≡ in_slot stamped (read ns net) (vertical net axis h x) f
+stub-laid f ns net h x first e z q =
+    q ∙ ap₂ (λ (i a : ℕ). stamp f i (rec_bits (vertical net a h x))) e z ∙ sym (in_slot-stamp (read ns net) (vertical net axis h x) f first)

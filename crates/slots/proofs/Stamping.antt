@@ -1,15 +1,13 @@
 -- Three fields that are put one after the other are five bytes of a record, and a record's bits are such fields.
 use mathlib.Core.Path.{◌≡◌, sym, ap, ap₂, ◌∙◌}
 use mathlib.Core.List.{List, [], ◌++◌, append_assoc, append-nil}
-use Prim.Native.Nat.{ℕ, ◌+◌, ◌*◌, ◌^◌, ◌≤◌, ◌<◌, min, max}
+use Prim.Native.Nat.{ℕ, ◌+◌, ◌*◌, ◌^◌, ◌≤◌, ◌<◌}
 use native.Mathlib.Nat.{add_assoc}
 use native.Mathlib.Omega.{arith}
 use lib.ListN.{length, get_or, take, drop, length-append}
 use lib.Seq.{take_all, drop-length, drop-drop, paste, take-paste, drop-paste}
-use lib.Dec.{ltb}
 use borrow.Rule.Slice.PartMut.{put_mid}
-use mathlib.Core.Bool.{true, false}
-use borrow.Author.Tests.{ltb-true, ltb-false, le-leb, lt-leb}
+use borrow.Author.Tests.{le-leb, lt-leb}
 use Rattle.rules.specs.Basic.{pick}
 use Rattle.rules.specs.Bits.{digits, bits, bytes, Below}
 use Rattle.rules.specs.Film.{across, upright, rec_bits}
@@ -102,14 +100,13 @@ cell-three cell s₁ s₂ s₃ a b c p q n e f g =
     let z : s₃ ≡ stamp cell 0 l = stamp-three cell s₁ s₂ s₃ 0 a b c p q (omega arith) e f g in
     rw (le-leb 5 (length cell) h) at z ∙ rw none (append-nil (take 5 (bytes l)) ∙ take_all 5 (bytes l) (omega arith))
 
-pub cell-stamped : (film cell l : List ℕ) (i j m : ℕ) → 5 * i + 5 ≤ length film → j ≡ 5 * i → m ≡ 5 → length (bytes l) ≡ 5 → cell ≡ bytes l
-    → put_mid j m film cell ≡ stamp film i l
+pub cell-stamped : (film cell l : List ℕ) (i m : ℕ) → 5 * i + 5 ≤ length film → m ≡ 5 → length (bytes l) ≡ 5 → cell ≡ bytes l
+    → put_mid (5 * i) m film cell ≡ stamp film i l
 unfolding stamp pick
-cell-stamped film cell l i j m h s e n q =
+cell-stamped film cell l i m h e n q =
     let all : cell ≡ take 5 (bytes l) = q ∙ sym (take_all 5 (bytes l) (omega arith)) in
     rw (le-leb (5 * i + 5) (length film) h)
-    (ap (λ (k : ℕ). put_mid k m film cell) s
-    ∙ ap₂ (λ (r t : List ℕ). take (5 * i) film ++ (r ++ t)) all (ap (λ (k : ℕ). drop k (drop (5 * i) film)) e ∙ drop-drop 5 (5 * i) film)
+    (ap₂ (λ (r t : List ℕ). take (5 * i) film ++ (r ++ t)) all (ap (λ (k : ℕ). drop k (drop (5 * i) film)) e ∙ drop-drop 5 (5 * i) film)
     ∙ sym (append_assoc (take (5 * i) film) (take 5 (bytes l)) (drop (5 * i + 5) film)))
 
 -- ---- a record's bits as fields of 13, 13 and 14
@@ -139,22 +136,3 @@ module _ (film after : List ℕ) (i n h x y r : ℕ) (p : n < 256) (q : r ≤ 7)
       let v : 4096 + n * 16 + r ≡ (1 * 256 + n) * 16 + h = omega arith in
       let w : t * 1024 ≡ y * 2 ^ 10 + 0 = omega arith in
       f ∙ ap (stamp film i) (rw (front 1 n h p (omega arith) v, back 4 10 y w (omega arith)) (simp append_assoc))
-
--- ---- a vertical between two heights, whichever is the upper
-
-module _ (film after : List ℕ) (i n x a b : ℕ) {a' b' : ℕ} (p : a' ≡ a) (q : b' ≡ b) where
-  pub wall-up : ltb a' b' ≡ true → after ≡ stamp film i (rec_bits (upright n a' x b'))
-      → after ≡ stamp film i (rec_bits (upright n (min a b) x (max a b)))
-  wall-up e f =
-      let h : a' < b' = ltb-true a' b' e in
-      let l : a' ≡ min a b = omega arith in
-      let u : b' ≡ max a b = omega arith in
-      f ∙ ap₂ (λ (j k : ℕ). stamp film i (rec_bits (upright n j x k))) l u
-
-  pub wall-down : ltb a' b' ≡ false → after ≡ stamp film i (rec_bits (upright n b' x a'))
-      → after ≡ stamp film i (rec_bits (upright n (min a b) x (max a b)))
-  wall-down e f =
-      let h : b' ≤ a' = ltb-false a' b' e in
-      let l : b' ≡ min a b = omega arith in
-      let u : a' ≡ max a b = omega arith in
-      f ∙ ap₂ (λ (j k : ℕ). stamp film i (rec_bits (upright n j x k))) l u

@@ -1,7 +1,8 @@
--- Signed levels from −3 to 3 against heights, each law worked out over this small range, and u by the kind field.
-use mathlib.Core.Path.{◌≡◌, refl, sym, ap, ap₂, ◌∙◌}
-use mathlib.Core.Bool.{Bool, true, false}
-use Prim.Native.Nat.{ℕ, zero, suc, ◌+◌, ◌-◌, ◌^◌, ◌≤◌, ◌<◌}
+-- Signed levels from −3 to 3 against heights: each law is worked out over this small range.
+use mathlib.Core.Path.{◌≡◌, refl, sym, ◌∙◌}
+use mathlib.Core.Bool.{Bool, true, false, not}
+use Prim.Native.Nat.{ℕ, min, zero, suc, ◌+◌, ◌-◌, ◌^◌, ◌≤◌, ◌<◌}
+use native.Mathlib.Numerals.{add-one}
 use native.Mathlib.Omega.{arith}
 use lib.IntN.{ℤ, pos, negsuc, nat_abs, ◌+ℤ◌, ◌-ℤ◌}
 use lib.Signed.{lt_z, non_neg}
@@ -11,9 +12,12 @@ use mir.Syntax.{w8, w16}
 use mir.Val.{Fits, SFits, of_z, to_z}
 use mir.ValLaws.{to_z-of_z, to_z_pos}
 use Rattle.rules.specs.Basic.{pick}
-use Rattle.rules.specs.Sheet.{kind_in}
+use Rattle.rules.specs.declared.Kind.{Kind}
+use Rattle.rules.specs.declared.Kind.TheVariants.{B, M, E, N}
 use Rattle.rules.specs.Film.{axis, upper, upper_at, height_at}
-use Rattle.slots.specs.Heights.{high, Level, Reached}
+use Rattle.std.proofs.Common.{int_cmp, int_eq, is_lt, is_eq, cond}
+use Rattle.std.specs.declared.cmp.Ordering.TheVariants.{Less, Equal, Greater}
+use Rattle.slots.specs.Heights.{high, Level, level}
 
 level-fits : (z : ℤ) → Level z → SFits w8 z
 unfolding high
@@ -21,22 +25,8 @@ level-fits (pos n) h = record { sfits = omega arith }
 level-fits (negsuc n) h = record { sfits = omega arith }
 
 -- the bits of a level, as the code passes it on, are the level's
-pub kept : (z : ℤ) → Level z → to_z w8 (of_z w8 z) ≡ z
+kept : (z : ℤ) → Level z → to_z w8 (of_z w8 z) ≡ z
 kept z h = to_z-of_z w8 z (level-fits z h)
-
-pub kept_high : (z : ℤ) → Level z → high (to_z w8 (of_z w8 z)) ≡ high z
-kept_high z h = ap high (kept z h)
-
-pub level-kept : (z : ℤ) → Level z → Level (to_z w8 (of_z w8 z))
-level-kept z h = rw (kept z h) h
-
--- the axis is level 0
-pub high-axis : high (pos 0) ≡ axis
-unfolding high
-high-axis = refl
-
-pub level-axis : Level (pos 0)
-level-axis = record { low = omega (arith, high-axis); top = omega (arith, high-axis) }
 
 same_test : (a b c d : ℕ) → (a < b → c < d) → (b ≤ a → d ≤ c) → ltb a b ≡ ltb c d
 same_test a b c d f g = go (ltb a b) refl
@@ -45,15 +35,36 @@ same_test a b c d f g = go (ltb a b) refl
     go true e = sym (lt-ltb c d (f (ltb-true a b e)))
     go false e = sym (le-ltb c d (g (ltb-false a b e)))
 
-above : (a b : ℤ) → Level a → Level b → lt_z a b ≡ ltb (high a) (high b)
-unfolding high
-above (pos a) (pos b) h k = same_test a b (axis + a) (axis + b) (λ l. omega arith) (λ l. omega arith)
-above (pos a) (negsuc b) h k = sym (le-ltb (axis + a) (axis - suc b) (omega arith))
-above (negsuc a) (pos b) h k = sym (lt-ltb (axis - suc a) (axis + b) (omega arith))
-above (negsuc a) (negsuc b) h k = same_test b a (axis - suc a) (axis - suc b) (λ l. omega (arith, h.low)) (λ l. omega arith)
+-- the levels of heights compare as the heights do
+level-lt : (a b : ℕ) → lt_z (level a) (level b) ≡ ltb a b
+unfolding level pick
+level-lt a b = go (ltb a axis) refl (ltb b axis) refl
+  where
+    go : (s : Bool) → ltb a axis ≡ s → (t : Bool) → ltb b axis ≡ t → lt_z (pick s (negsuc (3 - a)) (pos (a - axis))) (pick t (negsuc (3 - b)) (pos (b - axis))) ≡ ltb a b
+    go true e true f =
+        let h : a < axis = ltb-true a axis e in
+        let k : b < axis = ltb-true b axis f in
+        same_test (3 - b) (3 - a) a b (λ l. omega arith) (λ l. omega arith)
+    go true e false f =
+        let h : a < axis = ltb-true a axis e in
+        let k : axis ≤ b = ltb-false b axis f in
+        sym (lt-ltb a b (omega arith))
+    go false e true f =
+        let h : axis ≤ a = ltb-false a axis e in
+        let k : b < axis = ltb-true b axis f in
+        sym (le-ltb a b (omega arith))
+    go false e false f =
+        let h : axis ≤ a = ltb-false a axis e in
+        let k : axis ≤ b = ltb-false b axis f in
+        same_test (a - axis) (b - axis) a b (λ l. omega arith) (λ l. omega arith)
 
-pub rises-above : (a b : ℤ) → Level a → Level b → lt_z (to_z w8 (of_z w8 a)) (to_z w8 (of_z w8 b)) ≡ ltb (high a) (high b)
-rises-above a b h k = ap₂ lt_z (kept a h) (kept b k) ∙ above a b h k
+lt-ranked : (b b' : Bool) → is_lt (cond b Less (cond b' Greater Equal)) ≡ b
+lt-ranked true b' = refl
+lt-ranked false true = refl
+lt-ranked false false = refl
+
+pub level-ranked : (a b : ℕ) → is_lt (int_cmp (level a) (level b)) ≡ ltb a b
+level-ranked a b = lt-ranked (lt_z (level a) (level b)) (lt_z (level b) (level a)) ∙ level-lt a b
 
 -- ---- the field of a level
 
@@ -89,40 +100,43 @@ module _ (z : ℤ) (h : Level z) where
 
 -- ---- the level of a position
 
-pub reached-above : (u q : ℕ) → u ≤ 3 → 1 ≤ q → q ≤ u → Reached (height_at u q) (to_z w8 (u - q + 1))
+pub level-above : (u q : ℕ) → u ≤ 3 → 1 ≤ q → q ≤ u → Level (to_z w8 (u - q + 1)) × (high (to_z w8 (u - q + 1)) ≡ height_at u q)
 unfolding high height_at pick
-reached-above u q h l k =
+level-above u q h l k =
     let n : u - q + 1 < 2 ^ 7 = omega arith in
-    rw (to_z_pos w8 (u - q + 1) n, le-leb q u k) (record { level = record { low = omega arith; top = omega arith }; is = refl })
+    rw (to_z_pos w8 (u - q + 1) n, le-leb q u k) (record { low = omega arith; top = omega arith }, refl)
 
-below : (n : ℕ) → 1 ≤ n → n ≤ 3 → (SFits w8 (pos 0 -ℤ to_z w8 n)) × Reached (axis - n) (to_z w8 (of_z w8 (pos 0 -ℤ to_z w8 n)))
+below : (n : ℕ) → 1 ≤ n → n ≤ 3
+    → Level (to_z w8 (of_z w8 (pos 0 -ℤ to_z w8 n))) × (high (to_z w8 (of_z w8 (pos 0 -ℤ to_z w8 n))) ≡ axis - n)
 unfolding high
 below zero h k = absurd (omega arith)
-below (suc zero) h k = (record { sfits = omega arith }, record { level = record { low = omega arith; top = omega arith }; is = refl })
-below (suc (suc zero)) h k = (record { sfits = omega arith }, record { level = record { low = omega arith; top = omega arith }; is = refl })
-below (suc (suc (suc zero))) h k = (record { sfits = omega arith }, record { level = record { low = omega arith; top = omega arith }; is = refl })
+below (suc zero) h k = (record { low = omega arith; top = omega arith }, refl)
+below (suc (suc zero)) h k = (record { low = omega arith; top = omega arith }, refl)
+below (suc (suc (suc zero))) h k = (record { low = omega arith; top = omega arith }, refl)
 below (suc (suc (suc (suc n)))) h k = absurd (omega arith)
 
-module _ (u q : ℕ) (l : u < q) (k : q ≤ u + 3) where
-  pub negated : SFits w8 (pos 0 -ℤ to_z w8 (q - u))
-  negated = (below (q - u) (omega arith) (omega arith)).0
+pub level-below : (u q : ℕ) → u < q → q ≤ u + 3
+    → Level (to_z w8 (of_z w8 (pos 0 -ℤ to_z w8 (q - u)))) × (high (to_z w8 (of_z w8 (pos 0 -ℤ to_z w8 (q - u)))) ≡ height_at u q)
+unfolding height_at pick
+level-below u q l k = rw (lt-leb q u l) (below (q - u) (omega arith) (omega arith))
 
-  pub reached-below : Reached (height_at u q) (to_z w8 (of_z w8 (pos 0 -ℤ to_z w8 (q - u))))
-  unfolding height_at pick
-  reached-below = rw (lt-leb q u l) (below (q - u) (omega arith) (omega arith)).1
+-- ---- u by the kind
 
--- ---- u by the kind field
+pub upper-own : (k : Kind) (ku a : ℕ) → (k ≡ N → ⊥) → min (a + 1) ku ≡ upper_at k ku a
+unfolding upper upper_at
+upper-own B ku a h = rw (add-one a) refl
+upper-own M ku a h = rw (add-one a) refl
+upper-own E ku a h = rw (add-one a) refl
+upper-own N ku a h = absurd (h refl)
 
-pub upper-blank : (f ku a : ℕ) → 2 < f → upper_at (kind_in f) ku a ≡ a
-unfolding kind_in upper_at
-upper-blank zero ku a h = absurd (omega arith)
-upper-blank (suc zero) ku a h = absurd (omega arith)
-upper-blank (suc (suc zero)) ku a h = absurd (omega arith)
-upper-blank (suc (suc (suc f))) ku a h = refl
+-- ---- levels that are not apart
 
-pub upper-own : (f ku a : ℕ) → f ≤ 2 → upper_at (kind_in f) ku a ≡ upper ku (suc a)
-unfolding kind_in upper_at
-upper-own zero ku a h = refl
-upper-own (suc zero) ku a h = refl
-upper-own (suc (suc zero)) ku a h = refl
-upper-own (suc (suc (suc f))) ku a h = absurd (omega arith)
+level-ties : (b b' : Bool) → not (is_eq (cond b Less (cond b' Greater Equal))) ≡ false → (b ≡ false) × (b' ≡ false)
+level-ties true b' e = let z : ◌≡◌ {A = ℕ} 0 1 = cc in absurd (omega arith)
+level-ties false true e = let z : ◌≡◌ {A = ℕ} 0 1 = cc in absurd (omega arith)
+level-ties false false e = (refl, refl)
+
+pub level-same : (a b : ℕ) → not (int_eq (level a) (level b)) ≡ false → a ≡ b
+level-same a b e =
+    let t = level-ties (lt_z (level a) (level b)) (lt_z (level b) (level a)) e in
+    omega (arith, ltb-false a b (sym (level-lt a b) ∙ t.0), ltb-false b a (sym (level-lt b a) ∙ t.1))

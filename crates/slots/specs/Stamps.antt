@@ -9,6 +9,10 @@ use Rattle.rules.specs.Film.{Rec, rec_bits}
 abbrev pub columns : ℕ
 columns = 8192
 
+-- the places of records that 16 bits can count, with slot k + 1 for place k
+abbrev pub places : ℕ
+places = 65536
+
 -- the film with 40 bits as record i; left as it was where it ends before
 unfoldable pub stamp : List ℕ → ℕ → List ℕ → List ℕ
 stamp film i l = pick (leb (5 * i + 5) (length film)) (paste film (5 * i) (bytes l) 5) film

@@ -1,54 +1,69 @@
 // Levels: upper tracks are 1, 2, 3 going up, lower tracks −1, −2, −3 going down, the axis with its pins is 0.
-ghost use Rattle.std.specs.Prelude.{◌≡◌, suc, ◌+◌, ◌≤◌, ltb};
-ghost use Rattle.rules.specs.Sheet.{kind_in};
-ghost use Rattle.rules.specs.Film.{upper, upper_at, height_at};
-ghost use Rattle.slots.specs.Heights.{high, Level, Reached};
+ghost use Rattle.std.specs.Prelude.{◌≡◌, ◌+◌, ◌≤◌, ltb};
+ghost use Rattle.rules.specs.Film.{axis, upper_at, height_at};
 
-// u, the number of wires in the upper street, at a node by its kind field: at a blank all wires above it.
-pub fn upper_at(kind: u8, ku: usize, above: usize) -> usize
-    requires { (ku ≤ 3) × (above ≤ 3) }
-    ensures { result ≡ upper_at (kind_in kind) ku above }
-{
-    if 2 < kind {
-        return above;
-    }
-    upper_wires(ku, above)
+use rules::Kind;
+use std::marker::Model;
+
+// A level from −3 to 3. Contracts see it as its height, level + 4, of which the film's definition speaks.
+#[derive(Clone, Copy, PartialEq, Eq, PartialOrd, Ord)]
+pub struct Level(i8);
+
+impl Model for Level {
+    ghost use Rattle.std.specs.Prelude.{ℕ};
+
+    ghost Value = { ℕ };
+
+    ghost use Rattle.slots.specs.Levels.{height_of, OnTrack, of_height, of_height_ok};
+
+    ghost view = { height_of };
+
+    ghost invariant = { OnTrack };
+
+    ghost inverse = { of_height };
+
+    ghost inverse_ok = { of_height_ok };
 }
 
-// u at a node with so many wires above its own: the smaller of p and Ku.
-fn upper_wires(ku: usize, above: usize) -> usize
-    requires { (ku ≤ 3) × (above ≤ 3) }
-    ensures { result ≡ upper ku (suc above) }
+// The level of the pins.
+pub fn level_of_pins() -> Level
+    ensures { result ≡ axis }
 {
-    if above < ku {
-        return above + 1;
+    Level(0)
+}
+
+// u, the number of wires in the upper street, at a node by its kind: the smaller of p and Ku, at a blank all wires above it.
+pub fn upper_at(kind: Kind, ku: usize, above: usize) -> usize
+    requires { (ku ≤ 3) × (above ≤ 3) }
+    ensures { result ≡ upper_at kind ku above }
+{
+    match kind {
+        Kind::N => above,
+        _ => (above + 1).min(ku),
     }
-    ku
 }
 
 // The level of the wire at position q, from 1, where u wires are in the upper street.
-pub fn level_at(u: usize, q: usize) -> i8
+pub fn level_at(u: usize, q: usize) -> Level
     requires { (u ≤ 3) × (1 ≤ q) × (q ≤ u + 3) }
-    ensures { Reached (height_at u q) result }
+    ensures { result ≡ height_at u q }
 {
     if q <= u {
-        return (u - q + 1) as i8;
+        return Level((u - q + 1) as i8);
     }
-    -((q - u) as i8)
+    Level(-((q - u) as i8))
 }
 
 // Whether level b is above level a.
-pub fn rises(a: i8, b: i8) -> bool
-    requires { Level a × Level b }
-    ensures { result ≡ ltb (high a) (high b) }
+pub fn rises(a: Level, b: Level) -> bool
+    ensures { result ≡ ltb a b }
 {
     a < b
 }
 
 // A level as the film's field has it.
-pub fn height(level: i8) -> u16
-    requires { Level level }
-    ensures { (result ≡ high level) × (result ≤ 7) }
+pub fn height(level: Level) -> u16
+    ensures { (result ≡ level) × (result ≤ 7) }
 {
-    (level + 4) as u16
+    (level.0 + 4) as u16
 }

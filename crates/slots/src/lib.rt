@@ -2,5 +2,5 @@
 #![tactic(auto)]
 
 pub mod levels;
-mod records;
+pub mod records;
 pub mod runs;

@@ -1,35 +1,24 @@
 -- `film::moves::is_steady` meets its contract, by the invariant of Invariants.antt. Assumes nothing.
-use mathlib.Core.Path.{sym, ◌∙◌}
-use native.Mathlib.Omega.{arith}
-use borrow.Author.Rules.{rules}
-use lib.ListN.{get_or}
-use lib.IntN.{pos}
-use Rattle.film.proofs.Tracks.{level-kept}
-use Rattle.film.proofs.Cells.{level-of, height-of}
+use mathlib.Core.Path.{sym, ap, ◌∙◌}
+use Rattle.std.proofs.Common.{below_more}
+use Rattle.std.proofs.lemmas.List.{get_or_default}
+use Rattle.rules.specs.Film.{Wire}
+use Rattle.slots.proofs.Tracks.{level-same}
+use Rattle.film.specs.Wires.{missing}
 use Rattle.film.proofs.Aims.{fitting-less}
 use Rattle.film.proofs.moves.is_steady.Goals as goal
 
-pub target-level-requires : goal.target-level-requires
-target-level-requires c =
-    fitting-less c.requires.1 (omega (arith, c.loop-q-test.true))
+pub target-requires : goal.target-requires
+target-requires c =
+    let within = rw c.as_slice-wire-items.ensures at c.loop-q-test.true in
+    fitting-less c.requires within
 
-pub rises-requires : goal.rises-requires
-rises-requires c =
-    let w = c.args.wires in
-    let l = c.loop-q in
-    let o = level-kept (get_or w.levels l.q (pos 0)) (level-of w l.q c.requires.0 (omega (arith, c.loop-q-test.true))) in
-    let n = level-kept c.target-level.result c.target-level.ensures.level in
-    search rules
-
-pub rises-requires-in-loop-q : goal.rises-requires-in-loop-q
-rises-requires-in-loop-q c =
-    let w = c.args.wires in
-    let l = c.loop-q in
-    let o = level-kept (get_or w.levels l.q (pos 0)) (level-of w l.q c.requires.0 (omega (arith, c.loop-q-test.true))) in
-    let n = level-kept c.target-level.result c.target-level.ensures.level in
-    search rules
-
-pub returns : goal.returns
-returns c =
-    let l = c.loop-q in
-    λ q h. sym (height-of c.args.wires q c.requires.0 h) ∙ l.invariant q (omega (arith, c.loop-q-test.false))
+pub loop-q-preserved : goal.loop-q-preserved
+loop-q-preserved c =
+    let ws = c.args.wires.now in
+    let q = c.loop-q.q in
+    let within = rw c.as_slice-wire-items.ensures at c.loop-q-test.true in
+    let item = rw c.as_slice-wire-items.ensures at c.wire-item.is in
+    let there = get_or_default ws q missing c.wire-item.result within ∙ sym item ∙ sym c.wire.view_is in
+    below_more _ _ c.loop-q.invariant
+    (ap (λ (v : Wire). v.height) there ∙ level-same c.wire.inside.level c.target.result (sym c.ne.ensures ∙ c.if-ne.false) ∙ c.target.ensures)

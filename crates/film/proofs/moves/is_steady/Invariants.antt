@@ -1,15 +1,9 @@
--- `film::moves::is_steady` meets its contract. The loop's invariant: each wire passed has the height that it has to reach. The measure is the number of
--- wires left. Assumes nothing.
+-- `film::moves::is_steady` meets its contract. The loop's invariant: each wire passed has the height that it has to reach. Assumes nothing.
 use mathlib.Core.Path.{◌≡◌}
-use Prim.Native.Nat.{ℕ, ◌-◌, ◌<◌}
-use lib.ListN.{get_or}
-use lib.IntN.{pos}
-use Rattle.film.specs.Heights.{high}
+use Prim.Native.Nat.{ℕ, ◌<◌}
+use Rattle.film.specs.Wires.{wire_at}
 use Rattle.film.specs.Moves.{aim}
 use Rattle.film.proofs.moves.is_steady.Given as goal
 
 abbrev pub invariant-loop-q : goal.invariant-loop-q
-invariant-loop-q l = (j : ℕ) → j < l.q → high (get_or l.levels j (pos 0)) ≡ aim l.node j
-
-abbrev pub decreases-loop-q : goal.decreases-loop-q
-decreases-loop-q l = l.count - l.q
+invariant-loop-q l = (j : ℕ) → j < l.q → (wire_at l.wires j).height ≡ aim l.node j

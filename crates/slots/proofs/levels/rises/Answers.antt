@@ -1,6 +1,7 @@
--- `slots::levels::rises` meets its contract: `rises-above`. Assumes nothing.
-use Rattle.slots.proofs.Tracks.{rises-above}
+-- `slots::levels::rises` meets its contract: `level-ranked`. Assumes nothing.
+use native.Mathlib.Omega.{arith}
+use Rattle.slots.proofs.Tracks.{level-ranked}
 use Rattle.slots.proofs.levels.rises.Goals as goal
 
 pub returns : goal.returns
-returns c = rises-above c.args.a c.args.b c.requires.0 c.requires.1
+returns c = grind (arith, level-ranked)

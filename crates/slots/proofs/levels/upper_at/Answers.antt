@@ -1,11 +1,12 @@
--- `slots::levels::upper_at` meets its contract, by the kind field: `upper-blank`, `upper-own`. Assumes nothing.
-use mathlib.Core.Path.{sym, ◌∙◌}
-use native.Mathlib.Omega.{arith}
-use Rattle.slots.proofs.Tracks.{upper-blank, upper-own}
+-- `slots::levels::upper_at` meets its contract: `upper-own`. Assumes nothing.
+use mathlib.Core.Path.{refl, ◌∙◌}
+use Rattle.rules.specs.Film.{upper_at}
+use Rattle.slots.proofs.Tracks.{upper-own}
 use Rattle.slots.proofs.levels.upper_at.Goals as goal
 
-pub returns-then-kind-gt2 : goal.returns-then-kind-gt2
-returns-then-kind-gt2 c = let a = c.args in sym (upper-blank a.kind a.ku a.above (omega arith))
+pub returns-in-N : goal.returns-in-N
+unfolding upper_at
+returns-in-N c = rw c.in-N.is refl
 
-pub returns : goal.returns
-returns c = let a = c.args in c.upper_wires.ensures ∙ sym (upper-own a.kind a.ku a.above (omega arith))
+pub returns-in_default : goal.returns-in_default
+returns-in_default c = let a = c.args in c.min.ensures ∙ upper-own a.kind a.ku a.above c.in_default.not-N
