@@ -8,10 +8,10 @@ use native.Mathlib.Nat.{suc-mul}
 use native.Mathlib.Numerals.{add-one}
 use native.Mathlib.Omega.{arith}
 use Rattle.rules.specs.Street.{fits}
-use Rattle.rules.specs.Sheet.{kind_in}
+use Rattle.rules.specs.declared.Kind.TheVariants.{B}
 use Rattle.rules.specs.Judgement.{left}
 use Rattle.rules.proofs.Fits.{Fits}
-use Rattle.steps.specs.declared.rank.Stop.{Stop}
+use Rattle.steps.specs.declared.plan.Stop.{Stop}
 use Rattle.steps.specs.Ranks.{capacity, fact, RankOf}
 use Rattle.steps.specs.Sets.{word_at, bit, marked}
 use Rattle.steps.specs.Stops.{hop_at, Sound}
@@ -26,13 +26,13 @@ use Rattle.steps.proofs.OpeningSteps.{begun, begun-only}
 use Rattle.steps.proofs.OpeningBack.{low-mark, fifth-mark, sixth-two}
 
 -- a B, with marks that hops of it made
-module _ (t : Stop) (s : List ℕ) (g r : ℕ) (sound : Sound t) (kind : t.kind ≡ 0) (low : r < fact t.count)
+module _ (t : Stop) (s : List ℕ) (g r : ℕ) (sound : Sound t) (kind : t.step.kind ≡ B) (low : r < fact t.step.count)
     (led : (x : ℕ) → marked s g x ≡ true → Led t x) where
   abbrev b : ℕ
-  b = t.count
+  b = t.step.count
 
-  fitting : (p : ℕ) → fits t.ku t.kl (suc p) (suc b) ≡ true → Fits t.ku t.kl (suc p) (suc b)
-  fitting p f = fits-fits t.ku t.kl (suc p) (suc b) f
+  fitting : (p : ℕ) → fits t.streets.upper t.streets.lower (suc p) (suc b) ≡ true → Fits t.streets.upper t.streets.lower (suc p) (suc b)
+  fitting p f = fits-fits t.streets.upper t.streets.lower (suc p) (suc b) f
 
   pub enters-somewhere : Onward t s g r → Somewhere (marked s g) b r
   enters-somewhere o =
@@ -42,10 +42,10 @@ module _ (t : Stop) (s : List ℕ) (g r : ℕ) (sound : Sound t) (kind : t.kind 
   pub enters-room : Onward t s g r → b < capacity
   enters-room o =
       let (f, d) = begun-only t kind r o.leads.at o.next o.leads.lands in
-      omega (arith, (fitting o.leads.at f).sum, sound.upper, sound.lower)
+      omega (arith, (fitting o.leads.at f).sum, t.streets.upper_few, t.streets.lower_few)
 
   pub enters-ranks : (x : ℕ) → marked s g x ≡ true → RankOf (suc b) x
-  unfolding left kind_in
+  unfolding left
   enters-ranks x m =
       let h = led x m in
       rw kind at (leads-rank t sound h.rank x h.of h.leads)
@@ -57,7 +57,7 @@ module _ (t : Stop) (s : List ℕ) (g r : ℕ) (sound : Sound t) (kind : t.kind 
       let (f, d) = begun-only t kind h.rank h.leads.at x h.leads.lands in
       let q : h.leads.at ≡ p =
       sym (rank-digit h.leads.at b h.rank h.of.below) ∙ ap (λ (n : ℕ). n / fact b) (d ∙ e) ∙ rank-digit p b r low in
-      let w : fits t.ku t.kl (suc p) (suc b) ≡ true = rw q at f in
+      let w : fits t.streets.upper t.streets.lower (suc p) (suc b) ≡ true = rw q at f in
       begun t kind r p w ∙ ap some (sym e)
 
   pub enters : (p x : ℕ) → Entry (marked s g) b r p x → Least t s g r p x

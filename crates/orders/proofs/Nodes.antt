@@ -1,79 +1,82 @@
--- The stops that the passes make of the three lists are sound, and ways go on through them.
-use mathlib.Core.Path.{◌≡◌, refl, ap, ◌∙◌}
+-- The stops that the passes make of a plan are sound, and ways go on through them.
+use mathlib.Core.Path.{refl}
 use mathlib.Core.List.{List, ◌∷◌}
 use Prim.Native.Nat.{ℕ, zero, suc, ◌<◌}
 use native.Mathlib.Omega.{arith}
 use lib.ListN.{length, get_or, take, drop}
 use lib.Seq.{drop-cons}
-use Rattle.steps.specs.Plan.{Step, step, steps}
+use Rattle.std.specs.Prelude.{IsTrue}
+use Rattle.rules.specs.declared.Kind.TheVariants.{B}
+use Rattle.rules.specs.declared.Streets.{Streets}
+use Rattle.steps.specs.declared.plan.Step.{Step}
+use Rattle.steps.specs.declared.plan.Stop.{Stop}
+use Rattle.steps.specs.Plan.{step, touches, Steps}
 use Rattle.steps.specs.Ranks.{RankOf, Way, Ahead}
 use Rattle.steps.specs.Sets.{ranks}
-use Rattle.steps.specs.Stops.{step_of, stop_of, Sound}
+use Rattle.steps.specs.Stops.{Sound}
 use Rattle.steps.specs.Leading.{Leads}
 use Rattle.orders.specs.Passes.{Given, Passable}
-use Rattle.orders.proofs.Ways.{Hopped, first-begins, way-more, way-less, ahead_more, ahead-less, way-ready, way-below, passes-take, steps-length, steps-at}
+use Rattle.orders.proofs.Ways.{Hopped, first-begins, way-more, way-less, ahead_more, ahead-less, way-ready, way-below, passes-take}
 
-module _ (ks xs cs : List ℕ) (ku kl : ℕ) where
-  abbrev ss : List Step
-  ss = steps ks xs cs
+-- node i of a plan; past its end the step that an index is read as there
+abbrev pub none : Step
+none = step B 0 0
 
-  abbrev none : Step
-  none = step 0 0 0
+abbrev pub node_at : List Step → ℕ → Step
+node_at ss i = get_or ss i none
 
-  module _ (i : ℕ) (l : i < length ks) where
-    inside : i < length ss
-    inside = rw (steps-length ks xs cs) l
+abbrev pub stop_at : List Step → Streets → ℕ → Stop
+stop_at ss st i = record { step = node_at ss i; streets = st }
 
-    told : get_or ss i none ≡ step_of (stop_of ks xs cs ku kl i)
-    told = steps-at ks xs cs i none l
+module _ (ss : List Step) (st : Streets) where
+  module _ (i : ℕ) (l : i < length ss) where
+    hopped : (r x : ℕ) → Leads (stop_at ss st i) r x → Hopped st.upper st.lower (node_at ss i) r x
+    hopped r x h = record { at = h.at; lands = h.lands }
 
-    hopped : (r x : ℕ) → Leads (stop_of ks xs cs ku kl i) r x → Hopped ku kl (get_or ss i none) r x
-    hopped r x h = rw told (record { at = h.at; lands = h.lands })
+    leads : (r x : ℕ) → Hopped st.upper st.lower (node_at ss i) r x → Leads (stop_at ss st i) r x
+    leads r x h = record { at = h.at; lands = h.lands }
 
-    leads : (r x : ℕ) → Hopped ku kl (get_or ss i none) r x → Leads (stop_of ks xs cs ku kl i) r x
-    leads r x h =
-        let k : Hopped ku kl (step_of (stop_of ks xs cs ku kl i)) r x = rw told at h in
-        record { at = k.at; lands = k.lands }
+    pub way_on : (r x : ℕ) → Way st.upper st.lower (take i ss) r → Leads (stop_at ss st i) r x → Way st.upper st.lower (take (suc i) ss) x
+    way_on r x w h = way-more st.upper st.lower ss i none r x l w (hopped r x h)
 
-    pub way_on : (r x : ℕ) → Way ku kl (take i ss) r → Leads (stop_of ks xs cs ku kl i) r x → Way ku kl (take (suc i) ss) x
-    way_on r x w h = way-more ku kl ss i none r x inside w (hopped r x h)
-
-    pub way_back : (x : ℕ) → Way ku kl (take (suc i) ss) x → (r : ℕ) × Way ku kl (take i ss) r × Leads (stop_of ks xs cs ku kl i) r x
+    pub way_back : (x : ℕ) → Way st.upper st.lower (take (suc i) ss) x →
+        (r : ℕ) × Way st.upper st.lower (take i ss) r × Leads (stop_at ss st i) r x
     way_back x w =
-        let (r, v, h) = way-less ku kl ss i none x inside w in
+        let (r, v, h) = way-less st.upper st.lower ss i none x l w in
         (r, v, leads r x h)
 
-    pub ahead-on : (r x : ℕ) → Leads (stop_of ks xs cs ku kl i) r x → Ahead ku kl (drop (suc i) ss) x → Ahead ku kl (drop i ss) r
-    ahead-on r x h a = rw (drop-cons ss i none inside) (ahead_more ku kl (get_or ss i none) (drop (suc i) ss) r x (hopped r x h) a)
+    pub ahead-on : (r x : ℕ) → Leads (stop_at ss st i) r x → Ahead st.upper st.lower (drop (suc i) ss) x →
+        Ahead st.upper st.lower (drop i ss) r
+    ahead-on r x h a = rw (drop-cons ss i none l) (ahead_more st.upper st.lower (node_at ss i) (drop (suc i) ss) r x (hopped r x h) a)
 
-    pub ahead-back : (r : ℕ) → Ahead ku kl (drop i ss) r →
-        (x : ℕ) × Leads (stop_of ks xs cs ku kl i) r x × Ahead ku kl (drop (suc i) ss) x
+    pub ahead-back : (r : ℕ) → Ahead st.upper st.lower (drop i ss) r →
+        (x : ℕ) × Leads (stop_at ss st i) r x × Ahead st.upper st.lower (drop (suc i) ss) x
     ahead-back r a =
-        let b : Ahead ku kl (get_or ss i none ∷ drop (suc i) ss) r = rw (drop-cons ss i none inside) at a in
-        let (x, h, c) = ahead-less ku kl (get_or ss i none) (drop (suc i) ss) r b in
+        let b : Ahead st.upper st.lower (node_at ss i ∷ drop (suc i) ss) r = rw (drop-cons ss i none l) at a in
+        let (x, h, c) = ahead-less st.upper st.lower (node_at ss i) (drop (suc i) ss) r b in
         (x, leads r x h, c)
 
     -- the stop that a way comes to, and its rank there
-    pub stop-ready : (w : List ℕ) (x : ℕ) → Given ks xs cs w ku kl → Way ku kl (take i ss) x →
-        Sound (stop_of ks xs cs ku kl i) × RankOf (get_or cs i 0) x
+    pub stop-ready : (w : List ℕ) (x : ℕ) → Given ss w → Way st.upper st.lower (take i ss) x →
+        Sound (stop_at ss st i) × RankOf (node_at ss i).count x
     stop-ready w x g v =
-        let r = way-ready ku kl g.upper g.lower i ss none (get_or ks i 0) (get_or xs i 0) (get_or cs i 0) x g.plan inside told v in
-        (record { few = r.few; touched = r.touched; upper = g.upper; lower = g.lower }, r.rank)
+        let r = way-ready st i ss none x g.plan l v in
+        (record { few = r.few; touched = r.touched }, r.rank)
 
-    -- a node that is no B and no blank is not the first
-    pub stop-behind : (w : List ℕ) → Given ks xs cs w ku kl → 0 < get_or ks i 0 → get_or ks i 0 < 3 → 0 < i
-    stop-behind w g h n = go i inside told h n
+    -- a node that touches a net is not the first
+    pub stop-behind : (w : List ℕ) → Given ss w → IsTrue (touches (node_at ss i).kind) → 0 < i
+    stop-behind w g h = go i l h
       where
-        go : (i : ℕ) → i < length ss → get_or ss i none ≡ step_of (stop_of ks xs cs ku kl i) → 0 < get_or ks i 0 → get_or ks i 0 < 3 → 0 < i
-        go zero m e h n =
-            absurd (first-begins (get_or ks 0 0) (get_or xs 0 0) (get_or cs 0 0) (drop 1 ss)
-            (drop-cons ss 0 none m ∙ ap (λ s. s ∷ drop 1 ss) e) g.plan refl h n)
-        go (suc i) m e h n = omega arith
+        go : (i : ℕ) → i < length ss → IsTrue (touches (node_at ss i).kind) → 0 < i
+        go zero m h =
+            let p : Steps 0 (node_at ss 0 ∷ drop 1 ss) = rw (drop-cons ss 0 none m) at g.plan in
+            absurd (first-begins p refl h)
+        go (suc i) m h = omega arith
 
-  pub stop-sound : (i : ℕ) (w : List ℕ) → i < length ks → Given ks xs cs w ku kl → Passable ku kl ss → Sound (stop_of ks xs cs ku kl i)
+  pub stop-sound : (i : ℕ) (w : List ℕ) → i < length ss → Given ss w → Passable st.upper st.lower ss → Sound (stop_at ss st i)
   stop-sound i w l g p =
-      let v = passes-take ku kl i ss p in
+      let v = passes-take st.upper st.lower i ss p in
       (stop-ready i l w v.end g v.way).0
 
-  pub rank_below : (i : ℕ) (w : List ℕ) (x : ℕ) → Given ks xs cs w ku kl → Way ku kl (take i ss) x → x < ranks
-  rank_below i w x g v = way-below ku kl g.upper g.lower i ss x g.plan v
+  pub rank_below : (i : ℕ) (w : List ℕ) (x : ℕ) → Given ss w → Way st.upper st.lower (take i ss) x → x < ranks
+  rank_below i w x g v = way-below st i ss x g.plan v

@@ -12,17 +12,18 @@ use lib.Seq.{take-suc-set, append_snoc, drop-cons}
 use lib.Dec.{eqb, ltb}
 use borrow.Author.Tests.{eqb-true, eqb-false, ltb-true, ltb-false}
 use Rattle.rules.specs.Street.{Earlier, here, there}
-use Rattle.steps.specs.Plan.{Step, step, steps}
+use Rattle.rules.specs.declared.Streets.{Streets}
+use Rattle.steps.specs.declared.plan.Step.{Step}
 use Rattle.steps.specs.Ranks.{hop_of, hops, Way, Ahead}
 use Rattle.steps.specs.Sets.{ranks, marked}
-use Rattle.steps.specs.Stops.{stop_of, step_of, hop_at}
+use Rattle.steps.specs.Stops.{hop_at}
 use Rattle.steps.specs.Leading.{Led, Onward, Least}
 use Rattle.orders.specs.Passes.{Given, Kept, Passable, First}
 use Rattle.steps.proofs.Slots.{held_below}
 use Rattle.steps.proofs.Bits.{marked-held}
 use Rattle.steps.proofs.Hops.{same_some}
-use Rattle.orders.proofs.Ways.{hops-nil, hops-start, hops-first, first-hops, way-start, passes-ahead, steps-length, steps-at}
-use Rattle.orders.proofs.Nodes.{way_on, way_back, ahead-back, stop-ready, rank_below}
+use Rattle.orders.proofs.Ways.{hops-nil, hops-start, hops-first, first-hops, way-start, passes-ahead}
+use Rattle.orders.proofs.Nodes.{none, node_at, stop_at, way_on, way_back, ahead-back, stop-ready, rank_below}
 
 module _ (ku kl : ℕ) where
   pub first-none : (r : ℕ) → First ku kl [] r []
@@ -54,68 +55,58 @@ module _ (ku kl : ℕ) where
           go q us z w i k false false eb ec = inr (rw w (here {p = p} {q = q} (omega (arith, eqb-false q p eb, ltb-false q p ec))))
 
 -- after i nodes: a way leads to rank r and on from there, and the first positions from there complete the first of all
-pub record Picks (ks xs cs : List ℕ) (ku kl : ℕ) (ps : List ℕ) (i r : ℕ) : Type 0 where
+pub record Picks (ss : List Step) (st : Streets) (ps : List ℕ) (i r : ℕ) : Type 0 where
   pub cells : length ps ≡ 512
-  pub within : i ≤ length ks
-  pub way : Way ku kl (take i (steps ks xs cs)) r
-  pub ahead : Ahead ku kl (drop i (steps ks xs cs)) r
-  pub rest : (ws : List ℕ) → First ku kl (drop i (steps ks xs cs)) r ws → First ku kl (steps ks xs cs) 0 (take i ps ++ ws)
+  pub within : i ≤ length ss
+  pub way : Way st.upper st.lower (take i ss) r
+  pub ahead : Ahead st.upper st.lower (drop i ss) r
+  pub rest : (ws : List ℕ) → First st.upper st.lower (drop i ss) r ws → First st.upper st.lower ss 0 (take i ps ++ ws)
 
-module _ (ks xs cs : List ℕ) (ku kl : ℕ) (s : List ℕ) (given : Given ks xs cs s ku kl) (kept : Kept ku kl (steps ks xs cs) s) where
-  abbrev ss : List Step
-  ss = steps ks xs cs
-
-  abbrev none : Step
-  none = step 0 0 0
-
-  pub picks_start : (ps : List ℕ) → length ps ≡ 512 → Passable ku kl ss → Picks ks xs cs ku kl ps 0 0
+module _ (ss : List Step) (st : Streets) (s : List ℕ) (given : Given ss s) (kept : Kept st.upper st.lower ss s) where
+  pub picks_start : (ps : List ℕ) → length ps ≡ 512 → Passable st.upper st.lower ss → Picks ss st ps 0 0
   picks_start ps h p =
-      record { cells = h; within = omega arith; way = way-start ku kl; ahead = passes-ahead ku kl ss p; rest = λ ws f. f }
+      record { cells = h; within = omega arith; way = way-start st.upper st.lower; ahead = passes-ahead st.upper st.lower ss p; rest = λ ws f. f }
 
-  module _ (i r : ℕ) (ps : List ℕ) (l : i < length ks) (k : Picks ks xs cs ku kl ps i r) where
-    inside : i < length ss
-    inside = rw (steps-length ks xs cs) l
-
+  module _ (i r : ℕ) (ps : List ℕ) (l : i < length ss) (k : Picks ss st ps i r) where
     -- what leads on is marked
-    lands-kept : (q y : ℕ) → hop_at (stop_of ks xs cs ku kl i) r q ≡ some y → Ahead ku kl (drop (suc i) ss) y → marked s i y ≡ true
-    lands-kept q y e a = kept.full i y inside (way_on ks xs cs ku kl i l r y k.way (record { at = q; lands = e })) a
+    lands-kept : (q y : ℕ) → hop_at (stop_at ss st i) r q ≡ some y → Ahead st.upper st.lower (drop (suc i) ss) y → marked s i y ≡ true
+    lands-kept q y e a = kept.full i y l (way_on ss st i l r y k.way (record { at = q; lands = e })) a
 
-    pub leads-on : Onward (stop_of ks xs cs ku kl i) s i r
+    pub leads-on : Onward (stop_at ss st i) s i r
     leads-on =
-        let (y, h, a) = ahead-back ks xs cs ku kl i l r k.ahead in
-        let w = way_on ks xs cs ku kl i l r y k.way h in
-        record { next = y; within = rank_below ks xs cs ku kl (suc i) s y given w; leads = h; kept = kept.full i y inside w a }
+        let (y, h, a) = ahead-back ss st i l r k.ahead in
+        let w = way_on ss st i l r y k.way h in
+        record { next = y; within = rank_below ss st (suc i) s y given w; leads = h; kept = kept.full i y l w a }
 
     -- a hop made each mark
-    pub marks-led : (x : ℕ) → marked s i x ≡ true → Led (stop_of ks xs cs ku kl i) x
+    pub marks-led : (x : ℕ) → marked s i x ≡ true → Led (stop_at ss st i) x
     marks-led x m =
         let n : x < ranks = omega (arith, held_below x (marked-held s i x m)) in
-        let (q, v, h) = way_back ks xs cs ku kl i l x (kept.ways i x inside n m) in
-        record { rank = q; of = (stop-ready ks xs cs ku kl i l s q given v).1; leads = h }
+        let (q, v, h) = way_back ss st i l x (kept.ways i x l n m) in
+        record { rank = q; of = (stop-ready ss st i l s q given v).1; leads = h }
 
-    pub picks-step : (p x : ℕ) → length ks ≤ 512 → Least (stop_of ks xs cs ku kl i) s i r p x →
-        Picks ks xs cs ku kl (set ps i p) (i + 1) x
+    pub picks-step : (p x : ℕ) → length ss ≤ 512 → Least (stop_at ss st i) s i r p x →
+        Picks ss st (set ps i p) (i + 1) x
     picks-step p x few m =
-        let a : Ahead ku kl (drop (suc i) ss) x = kept.sound i x inside m.lands.within m.lands.kept in
+        let a : Ahead st.upper st.lower (drop (suc i) ss) x = kept.sound i x l m.lands.within m.lands.kept in
         rw (add-one i)
         (record {
           cells = length-set ps i p ∙ k.cells;
           within = omega arith;
-          way = way_on ks xs cs ku kl i l r x k.way (record { at = p; lands = m.lands.lands });
+          way = way_on ss st i l r x k.way (record { at = p; lands = m.lands.lands });
           ahead = a;
           rest = λ ws f. rw (take-suc-set ps i p (omega (arith, k.cells)))
               (rw (append_snoc (take i ps) p ws) (k.rest (p ∷ ws) (more ws f)));
         })
       where
-        more : (ws : List ℕ) → First ku kl (drop (suc i) ss) x ws → First ku kl (drop i ss) r (p ∷ ws)
+        more : (ws : List ℕ) → First st.upper st.lower (drop (suc i) ss) x ws → First st.upper st.lower (drop i ss) r (p ∷ ws)
         more ws f =
-            rw (drop-cons ss i none inside)
-            (rw (steps-at ks xs cs i none l)
-            (first_more ku kl (step_of (stop_of ks xs cs ku kl i)) (drop (suc i) ss) r p x ws m.lands.lands
-            (λ q y h e b. m.first q h y e (lands-kept q y e b)) f))
+            rw (drop-cons ss i none l)
+            (first_more st.upper st.lower (node_at ss i) (drop (suc i) ss) r p x ws m.lands.lands
+            (λ q y h e b. m.first q h y e (lands-kept q y e b)) f)
 
-  pub picks-end : (i r : ℕ) (ps : List ℕ) → length ks ≤ i → Picks ks xs cs ku kl ps i r → First ku kl ss 0 (take (length ss) ps)
+  pub picks-end : (i r : ℕ) (ps : List ℕ) → length ss ≤ i → Picks ss st ps i r → First st.upper st.lower ss 0 (take (length ss) ps)
   picks-end i r ps l k =
-      let e : length ss ≡ i = omega (arith, steps-length ks xs cs, k.within) in
-      let f : First ku kl ss 0 (take i ps ++ []) = k.rest [] (rw (drop_of_length-le ss {i = i} (omega arith)) (first-none ku kl r)) in
+      let e : length ss ≡ i = omega (arith, k.within) in
+      let f : First st.upper st.lower ss 0 (take i ps ++ []) = k.rest [] (rw (drop_of_length-le ss {i = i} (omega arith)) (first-none st.upper st.lower r)) in
       rw e (rw (append-nil (take i ps)) at f)

@@ -4,19 +4,19 @@ use mathlib.Core.Bool.{Bool, true, false}
 use mathlib.Core.List.{List}
 use Prim.Native.Nat.{ℕ, suc, ◌≤◌, ◌<◌}
 use native.Mathlib.Omega.{arith}
-use lib.ListN.{length, get_or, drop, drop_of_length-le}
+use lib.ListN.{length, drop, drop_of_length-le}
 use lib.Dec.{eqb}
 use borrow.Author.Tests.{eqb-true, eqb-false}
-use Rattle.steps.specs.Plan.{Step, steps}
+use Rattle.rules.specs.declared.Streets.{Streets}
+use Rattle.steps.specs.declared.plan.Step.{Step}
 use Rattle.steps.specs.Ranks.{RankOf, Ahead}
 use Rattle.steps.specs.Sets.{ranks, marked, source, Loses}
-use Rattle.steps.specs.Stops.{stop_of}
 use Rattle.steps.specs.Leading.{Onward, Reached}
 use Rattle.orders.specs.Passes.{Given, Filled, Pruned}
 use Rattle.steps.proofs.Slots.{held_below}
 use Rattle.steps.proofs.Bits.{marked-held, source-gap}
-use Rattle.orders.proofs.Ways.{ahead_none, steps-length}
-use Rattle.orders.proofs.Nodes.{way_on, way_back, ahead-on, ahead-back, stop-ready, rank_below}
+use Rattle.orders.proofs.Ways.{ahead_none}
+use Rattle.orders.proofs.Nodes.{node_at, stop_at, way_on, way_back, ahead-on, ahead-back, stop-ready, rank_below}
 
 -- a number from g on is g or above it
 at-or : {P : Type 0} (h g : ℕ) → g ≤ h → (h ≡ g → P) → (g < h → P) → P
@@ -27,57 +27,54 @@ at-or {P} h g l p q = go (eqb h g) refl
     go false e = q (omega (arith, eqb-false h g e))
 
 -- the gaps from that before node i on are pruned, those before it are as they were
-pub record Prunes (ks xs cs : List ℕ) (ku kl : ℕ) (s₀ : List ℕ) (i : ℕ) (s : List ℕ) : Type 0 where
+pub record Prunes (ss : List Step) (st : Streets) (s₀ : List ℕ) (i : ℕ) (s : List ℕ) : Type 0 where
   pub long : length s ≡ length s₀
-  pub node : i ≤ length ks
+  pub node : i ≤ length ss
   pub early : (g x : ℕ) → suc g < i → x < ranks → marked s g x ≡ marked s₀ g x
-  pub was : (g x : ℕ) → i ≤ suc g → g < length ks → x < ranks → marked s g x ≡ true → marked s₀ g x ≡ true
-  pub sound : (g x : ℕ) → i ≤ suc g → g < length ks → x < ranks → marked s g x ≡ true → Ahead ku kl (drop (suc g) (steps ks xs cs)) x
-  pub full : (g x : ℕ) → i ≤ suc g → g < length ks → x < ranks → marked s₀ g x ≡ true → Ahead ku kl (drop (suc g) (steps ks xs cs)) x →
+  pub was : (g x : ℕ) → i ≤ suc g → g < length ss → x < ranks → marked s g x ≡ true → marked s₀ g x ≡ true
+  pub sound : (g x : ℕ) → i ≤ suc g → g < length ss → x < ranks → marked s g x ≡ true → Ahead st.upper st.lower (drop (suc g) ss) x
+  pub full : (g x : ℕ) → i ≤ suc g → g < length ss → x < ranks → marked s₀ g x ≡ true → Ahead st.upper st.lower (drop (suc g) ss) x →
       marked s g x ≡ true
 
-module _ (ks xs cs : List ℕ) (ku kl : ℕ) (s₀ : List ℕ) (given : Given ks xs cs s₀ ku kl)
-    (fills : Filled ku kl (steps ks xs cs) (length ks) s₀) where
-  abbrev ss : List Step
-  ss = steps ks xs cs
-
-  pub prunes-start : Prunes ks xs cs ku kl s₀ (length ks) s₀
+module _ (ss : List Step) (st : Streets) (s₀ : List ℕ) (given : Given ss s₀)
+    (fills : Filled st.upper st.lower ss (length ss) s₀) where
+  pub prunes-start : Prunes ss st s₀ (length ss) s₀
   prunes-start =
       record {
         long = refl;
         node = omega arith;
         early = λ g x l h. refl;
         was = λ g x l m h e. e;
-        sound = λ g x l m h e. rw (drop_of_length-le ss {i = suc g} (omega (arith, steps-length ks xs cs))) (ahead_none ku kl x);
+        sound = λ g x l m h e. rw (drop_of_length-le ss {i = suc g} (omega arith)) (ahead_none st.upper st.lower x);
         full = λ g x l m h e a. e;
       }
 
   -- the rank of a mark is one of the nets that the next node finds open
-  rank-next : (i g : ℕ) (s : List ℕ) → i ≡ suc (suc g) → Prunes ks xs cs ku kl s₀ i s → (x : ℕ) → marked s g x ≡ true →
-      RankOf (get_or cs (suc g) 0) x
+  rank-next : (i g : ℕ) (s : List ℕ) → i ≡ suc (suc g) → Prunes ss st s₀ i s → (x : ℕ) → marked s g x ≡ true →
+      RankOf (node_at ss (suc g)).count x
   rank-next i g s e f x m =
       let h : x < ranks = omega (arith, held_below x (marked-held s g x m)) in
       let w = fills.sound g x (omega (arith, f.node)) h (sym (f.early g x (omega arith) h) ∙ m) in
-      (stop-ready ks xs cs ku kl (suc g) (omega (arith, f.node)) s₀ x given w).1
+      (stop-ready ss st (suc g) (omega (arith, f.node)) s₀ x given w).1
 
   -- what is marked after the next node was led to from a mark before it
-  reached-next : (i g : ℕ) (s : List ℕ) → i ≡ suc (suc g) → Prunes ks xs cs ku kl s₀ i s → (x : ℕ) → marked s (suc g) x ≡ true →
-      Reached (stop_of ks xs cs ku kl (suc g)) s (suc g) x
+  reached-next : (i g : ℕ) (s : List ℕ) → i ≡ suc (suc g) → Prunes ss st s₀ i s → (x : ℕ) → marked s (suc g) x ≡ true →
+      Reached (stop_at ss st (suc g)) s (suc g) x
   reached-next i g s e f x m =
-      let l : suc g < length ks = omega (arith, f.node) in
+      let l : suc g < length ss = omega (arith, f.node) in
       let h : x < ranks = omega (arith, held_below x (marked-held s (suc g) x m)) in
       let w = fills.sound (suc g) x l h (f.was (suc g) x (omega arith) l h m) in
-      let (r, v, k) = way_back ks xs cs ku kl (suc g) l x w in
-      let n : r < ranks = rank_below ks xs cs ku kl (suc g) s₀ r given v in
+      let (r, v, k) = way_back ss st (suc g) l x w in
+      let n : r < ranks = rank_below ss st (suc g) s₀ r given v in
       record {
         rank = r;
-        below = (stop-ready ks xs cs ku kl (suc g) l s₀ r given v).1.below;
+        below = (stop-ready ss st (suc g) l s₀ r given v).1.below;
         from = source-gap s (suc g) g r refl ∙ f.early g r (omega arith) n ∙ fills.full g r (omega arith) v;
         leads = k;
       }
 
-  prunes-next : (i g : ℕ) (s t : List ℕ) → i ≡ suc (suc g) → Prunes ks xs cs ku kl s₀ i s →
-      Loses s g (Onward (stop_of ks xs cs ku kl (suc g)) s (suc g)) t → Prunes ks xs cs ku kl s₀ (suc g) t
+  prunes-next : (i g : ℕ) (s t : List ℕ) → i ≡ suc (suc g) → Prunes ss st s₀ i s →
+      Loses s g (Onward (stop_at ss st (suc g)) s (suc g)) t → Prunes ss st s₀ (suc g) t
   prunes-next i g s t e f a =
       record {
         long = a.long ∙ f.long;
@@ -91,7 +88,7 @@ module _ (ks xs cs : List ℕ) (ku kl : ℕ) (s₀ : List ℕ) (given : Given ks
             (λ j. a.others h x n (λ q. omega arith) ∙ f.full h x (omega arith) m n k b);
       }
     where
-      next : suc g < length ks
+      next : suc g < length ss
       next = omega (arith, f.node)
 
       same : (x : ℕ) → x < ranks → marked s g x ≡ marked s₀ g x
@@ -103,34 +100,33 @@ module _ (ks xs cs : List ℕ) (ku kl : ℕ) (s₀ : List ℕ) (given : Given ks
       was : (x : ℕ) → x < ranks → marked t g x ≡ true → marked s₀ g x ≡ true
       was x n k = sym (same x n) ∙ a.was x n k
 
-      sound : (x : ℕ) → x < ranks → marked t g x ≡ true → Ahead ku kl (drop (suc g) ss) x
+      sound : (x : ℕ) → x < ranks → marked t g x ≡ true → Ahead st.upper st.lower (drop (suc g) ss) x
       sound x n k =
           let o = a.sound x n k in
-          ahead-on ks xs cs ku kl (suc g) next x o.next o.leads
+          ahead-on ss st (suc g) next x o.next o.leads
           (f.sound (suc g) o.next (omega arith) next o.within o.kept)
 
-      full : (x : ℕ) → x < ranks → marked s₀ g x ≡ true → Ahead ku kl (drop (suc g) ss) x → marked t g x ≡ true
+      full : (x : ℕ) → x < ranks → marked s₀ g x ≡ true → Ahead st.upper st.lower (drop (suc g) ss) x → marked t g x ≡ true
       full x n k b =
-          let (y, h, c) = ahead-back ks xs cs ku kl (suc g) next x b in
-          let w = way_on ks xs cs ku kl (suc g) next x y (fills.sound g x (omega arith) n k) h in
-          let m = rank_below ks xs cs ku kl (suc (suc g)) s₀ y given w in
+          let (y, h, c) = ahead-back ss st (suc g) next x b in
+          let w = way_on ss st (suc g) next x y (fills.sound g x (omega arith) n k) h in
+          let m = rank_below ss st (suc (suc g)) s₀ y given w in
           a.full x n (same x n ∙ k)
           (record { next = y; within = m; leads = h; kept = f.full (suc g) y (omega arith) next m (fills.full (suc g) y next w) c })
 
   -- with node h, between gaps g and h
-  module _ (i h g : ℕ) (s : List ℕ) (ei : i ≡ suc h) (eh : h ≡ suc g) (f : Prunes ks xs cs ku kl s₀ i s) where
-    pub mark-ranks : (x : ℕ) → source s (suc g) x ≡ true → RankOf (get_or cs h 0) x
+  module _ (i h g : ℕ) (s : List ℕ) (ei : i ≡ suc h) (eh : h ≡ suc g) (f : Prunes ss st s₀ i s) where
+    pub mark-ranks : (x : ℕ) → source s (suc g) x ≡ true → RankOf (node_at ss h).count x
     mark-ranks x m = rw eh (rank-next i g s (ei ∙ ap suc eh) f x (sym (source-gap s (suc g) g x refl) ∙ m))
 
-    pub mark-reached : (x : ℕ) → marked s (suc g) x ≡ true → Reached (stop_of ks xs cs ku kl h) s (suc g) x
+    pub mark-reached : (x : ℕ) → marked s (suc g) x ≡ true → Reached (stop_at ss st h) s (suc g) x
     mark-reached x m = rw eh (reached-next i g s (ei ∙ ap suc eh) f x m)
 
-    pub prunes-step : (t : List ℕ) → Loses s g (Onward (stop_of ks xs cs ku kl h) s (suc g)) t → Prunes ks xs cs ku kl s₀ h t
+    pub prunes-step : (t : List ℕ) → Loses s g (Onward (stop_at ss st h) s (suc g)) t → Prunes ss st s₀ h t
     prunes-step t a = rw eh (prunes-next i g s t (ei ∙ ap suc eh) f (rw eh at a))
 
-  pub prunes-end : (i : ℕ) (s : List ℕ) → i ≤ 1 → Prunes ks xs cs ku kl s₀ i s → Pruned ku kl ss s₀ s
+  pub prunes-end : (i : ℕ) (s : List ℕ) → i ≤ 1 → Prunes ss st s₀ i s → Pruned st.upper st.lower ss s₀ s
   prunes-end i s l f =
-      let n = steps-length ks xs cs in
       record {
         long = f.long;
         was = λ g x h. f.was g x (omega arith) (omega arith);

@@ -3,62 +3,63 @@ use mathlib.Core.Path.{◌≡◌, refl, sym, ap, ◌∙◌, subst}
 use mathlib.Core.Bool.{Bool, true, false, ◌&&◌}
 use mathlib.Core.List.{List}
 use mathlib.Core.Option.{none, some}
-use Prim.Native.Nat.{ℕ, zero, suc, ◌-◌, ◌<◌}
+use Prim.Native.Nat.{ℕ, suc, ◌-◌, ◌<◌}
 use native.Mathlib.Omega.{arith}
+use Rattle.std.specs.Prelude.{IsTrue}
 use lib.Dec.{eqb}
 use borrow.Author.Tests.{eqb-true, eqb-false, ne_eqb}
 use Rattle.rules.specs.Basic.{keep}
-use Rattle.rules.specs.Row.{N}
+use Rattle.rules.specs.declared.Kind.{Kind}
+use Rattle.rules.specs.declared.Kind.TheVariants.{B, M, E, N}
 use Rattle.rules.specs.Street.{fits}
 use Rattle.rules.proofs.Fits.{FitsAt}
 use Rattle.rules.proofs.Choices.{lowest-fits, lowest-least}
-use Rattle.steps.specs.declared.rank.Stop.{Stop}
-use Rattle.steps.specs.Plan.{step}
+use Rattle.steps.specs.declared.plan.Stop.{Stop}
+use Rattle.steps.specs.Plan.{step, touches}
 use Rattle.steps.specs.Ranks.{fact, at_of, less_of, hop_of}
 use Rattle.steps.specs.Sets.{marked}
 use Rattle.steps.specs.Stops.{hop_at, Sound}
 use Rattle.steps.specs.Leading.{Onward, Misses, Least}
-use Rattle.steps.proofs.Hops.{kept, hop-rests, hop-rested, hop-still, stop-lands, none-some}
+use Rattle.steps.proofs.Hops.{of-true, kept, hop-rests, hop-rested, hop-still, stop-lands, none-some}
 
--- the rank after a node of kind 1 or 2
-abbrev pub after : (kind a b r : ℕ) → ℕ
-after zero a b r = r
-after (suc zero) a b r = r
-after (suc (suc k)) a b r = less_of a b r
+-- the rank after a node that touches a net
+abbrev pub after : Kind → (a b r : ℕ) → ℕ
+after B a b r = r
+after M a b r = r
+after E a b r = less_of a b r
+after N a b r = r
 
-pub after-touch : (kind a b r : ℕ) → kind ≡ 1 → r ≡ after kind a b r
-after-touch kind a b r e = rw e
+pub after-touch : (k : Kind) (a b r : ℕ) → k ≡ M → r ≡ after k a b r
+after-touch k a b r e = rw e
 
-pub after-end : (kind a b r : ℕ) → 0 < kind → (kind ≡ 1 → ⊥) → less_of a b r ≡ after kind a b r
-after-end zero a b r h n = absurd (omega arith)
-after-end (suc zero) a b r h n = absurd (n refl)
-after-end (suc (suc k)) a b r h n = refl
+pub after-end : (k : Kind) (a b r : ℕ) → k ≡ E → less_of a b r ≡ after k a b r
+after-end k a b r e = rw e
 
-module _ (t : Stop) (s : List ℕ) (g r : ℕ) (sound : Sound t) (touched : 0 < t.kind) (known : t.kind < 3) (low : r < fact t.count) where
+module _ (t : Stop) (s : List ℕ) (g r : ℕ) (sound : Sound t) (touched : IsTrue (touches t.step.kind)) (low : r < fact t.step.count) where
   place : ℕ
-  place = at_of t.age t.count r
+  place = at_of t.step.age t.step.count r
 
   next : ℕ
-  next = after t.kind t.age t.count r
+  next = after t.step.kind t.step.age t.step.count r
 
-  hops-there : (p : ℕ) → hop_at t r p ≡ keep (eqb p place && fits t.ku t.kl (suc p) t.count) next
+  hops-there : (p : ℕ) → hop_at t r p ≡ keep (eqb p place && fits t.streets.upper t.streets.lower (suc p) t.step.count) next
   unfolding hop_of place next
-  hops-there p = go t.kind touched known
+  hops-there p = go t.step.kind touched
     where
-      go : (k : ℕ) → 0 < k → k < 3
-          → hop_of t.ku t.kl (step k t.age t.count) r p
-          ≡ keep (eqb p (at_of t.age t.count r) && fits t.ku t.kl (suc p) t.count) (after k t.age t.count r)
-      go zero h l = absurd (omega arith)
-      go (suc zero) h l = refl
-      go (suc (suc zero)) h l = refl
-      go (suc (suc (suc k))) h l = absurd (omega arith)
+      go : (k : Kind) → IsTrue (touches k)
+          → hop_of t.streets.upper t.streets.lower (step k t.step.age t.step.count) r p
+          ≡ keep (eqb p (at_of t.step.age t.step.count r) && fits t.streets.upper t.streets.lower (suc p) t.step.count) (after k t.step.age t.step.count r)
+      go B h = absurd (of-true h)
+      go M h = refl
+      go E h = refl
+      go N h = absurd (of-true h)
 
   elsewhere : (q : ℕ) → (q ≡ place → ⊥) → Misses t s g r q
   unfolding keep
   elsewhere q h x e k = let z : hop_at t r q ≡ none = hops-there q ∙ rw (ne_eqb q place h) in none-some z e
 
   -- the position that leads on is the net's one
-  pub leads-at : (o : Onward t s g r) → o.leads.at ≡ at_of t.age t.count r
+  pub leads-at : (o : Onward t s g r) → o.leads.at ≡ at_of t.step.age t.step.count r
   unfolding place
   leads-at o = go (eqb o.leads.at place) refl
     where
@@ -67,7 +68,7 @@ module _ (t : Stop) (s : List ℕ) (g r : ℕ) (sound : Sound t) (touched : 0 < 
       go false d = absurd (elsewhere o.leads.at (eqb-false o.leads.at place d) o.next o.leads.lands o.kept)
 
   -- and the least
-  pub stays : (o : Onward t s g r) (p x : ℕ) → p ≡ o.leads.at → x ≡ after t.kind t.age t.count r → Least t s g r p x
+  pub stays : (o : Onward t s g r) (p x : ℕ) → p ≡ o.leads.at → x ≡ after t.step.kind t.step.age t.step.count r → Least t s g r p x
   unfolding place next
   stays o p x ep ex = at_place (eqb p place) refl
     where
@@ -78,7 +79,7 @@ module _ (t : Stop) (s : List ℕ) (g r : ℕ) (sound : Sound t) (touched : 0 < 
       at_place true d =
           let q : p ≡ place = eqb-true p place d in
           let n : x ≡ o.next =
-          ex ∙ (kept (eqb p place && fits t.ku t.kl (suc p) t.count) next o.next (sym (hops-there p) ∙ e)).1 in
+          ex ∙ (kept (eqb p place && fits t.streets.upper t.streets.lower (suc p) t.step.count) next o.next (sym (hops-there p) ∙ e)).1 in
           let h : hop_at t r p ≡ some x = e ∙ ap some (sym n) in
           record {
             low = (stop-lands t r p x sound low h).0;
@@ -88,17 +89,17 @@ module _ (t : Stop) (s : List ℕ) (g r : ℕ) (sound : Sound t) (touched : 0 < 
       at_place false d = absurd (elsewhere p (eqb-false p place d) o.next e o.kept)
 
 -- at a blank, where the order stays, the least position is with as few wires above as the lower street allows
-pub rests : (t : Stop) (s : List ℕ) (g r : ℕ) → Sound t → 2 < t.kind → Onward t s g r → (p : ℕ) → p ≡ t.count - t.kl → Least t s g r p r
+pub rests : (t : Stop) (s : List ℕ) (g r : ℕ) → Sound t → t.step.kind ≡ N → Onward t s g r → (p : ℕ) → p ≡ t.step.count - t.streets.lower → Least t s g r p r
 rests t s g r sound blank o p ep =
-    let f = hop-rested t.ku t.kl t.kind t.age t.count r o.leads.at o.next blank o.leads.lands in
-    let e = hop-still t.ku t.kl t.kind t.age t.count r o.leads.at o.next (omega arith) (λ z. omega arith) o.leads.lands in
-    let h : FitsAt N t.ku t.kl (suc p) t.count = rw ep (lowest-fits t.ku t.kl t.count f.sum) in
+    let f = hop-rested t.streets.upper t.streets.lower t.step.kind t.step.age t.step.count r o.leads.at o.next blank o.leads.lands in
+    let e = hop-still t.streets.upper t.streets.lower t.step.kind t.step.age t.step.count r o.leads.at o.next (rw blank refl) o.leads.lands in
+    let h : FitsAt N t.streets.upper t.streets.lower (suc p) t.step.count = rw ep (lowest-fits t.streets.upper t.streets.lower t.step.count f.sum) in
     record {
-      low = omega (arith, h.upper, sound.upper);
+      low = omega (arith, h.upper, t.streets.upper_few);
       lands = record {
-        lands = hop-rests t.ku t.kl t.kind t.age t.count r p blank h;
+        lands = hop-rests t.streets.upper t.streets.lower t.step.kind t.step.age t.step.count r p blank h;
         within = omega (arith, e, o.within);
         kept = ap (marked s g) e ∙ o.kept;
       };
-      first = λ q l x d m. omega (arith, ep, l, lowest-least (hop-rested t.ku t.kl t.kind t.age t.count r q x blank d));
+      first = λ q l x d m. omega (arith, ep, l, lowest-least (hop-rested t.streets.upper t.streets.lower t.step.kind t.step.age t.step.count r q x blank d));
     }

@@ -4,18 +4,20 @@ use mathlib.Core.List.{List, [], ◌∷◌, ◌++◌}
 use mathlib.Core.Option.{Option, none, some}
 use Prim.Native.Nat.{ℕ, zero, suc, ◌+◌, ◌≤◌, ◌<◌}
 use native.Mathlib.Omega.{arith}
+use Rattle.std.specs.Prelude.{IsTrue}
 use lib.ListN.{length, get_or, take, drop}
 use lib.Seq.{take-suc, drop-cons}
 use Rattle.rules.specs.Basic.{and_then}
-use Rattle.rules.proofs.Pins.{length-tabulate, get_d_tabulate}
-use Rattle.rules.specs.Sheet.{kind_in}
+use Rattle.rules.specs.declared.Kind.TheVariants.{B, M, E, N}
+use Rattle.rules.specs.declared.Streets.{Streets}
 use Rattle.rules.specs.Judgement.{left}
-use Rattle.steps.specs.Plan.{Step, step, Steps, nil, full, begins, meet, rests, steps}
+use Rattle.steps.specs.declared.plan.Step.{Step}
+use Rattle.steps.specs.Plan.{step, touches, Steps, nil, full, begins, meets, ends, rests}
 use Rattle.steps.specs.Ranks.{hop_of, hops, open_after, RankOf, Way, Ahead}
 use Rattle.steps.specs.Sets.{ranks}
 use Rattle.orders.specs.Passes.{Passable}
 use Rattle.steps.proofs.Ranks.{fact-pos, fact-six}
-use Rattle.steps.proofs.Hops.{hop-made}
+use Rattle.steps.proofs.Hops.{of-true, hop-made}
 use Rattle.steps.proofs.RanksLed.{leads-rank}
 
 -- one hop: from rank r through the step s to rank x
@@ -126,109 +128,92 @@ module _ (ku kl : ℕ) where
   pub passes-ahead : (ss : List Step) → Passable ku kl ss → Ahead ku kl ss 0
   passes-ahead ss w = record { ps = w.way.ps; end = w.end; runs = w.way.runs }
 
--- a rank of b nets, at a step that finds them and touches one of them
-pub record Ready (k a b r : ℕ) : Type 0 where
-  pub few : b ≤ 6
-  pub touched : 0 < k → k < 3 → a < b
-  pub rank : RankOf b r
+-- a rank of the nets that a step finds open, of which it touches one
+pub record Ready (s : Step) (r : ℕ) : Type 0 where
+  pub few : s.count ≤ 6
+  pub touched : IsTrue (touches s.kind) → s.age < s.count
+  pub rank : RankOf s.count r
 
 -- steps with c nets open before them, and a rank of those
 pub record Comes (c : ℕ) (ss : List Step) (r : ℕ) : Type 0 where
   pub plan : Steps c ss
   pub rank : RankOf c r
 
-module _ (ku kl : ℕ) (hu : ku ≤ 3) (hl : kl ≤ 3) where
-  rank-on : (r x p k a b : ℕ) → b ≤ 6 → (0 < k → k < 3 → a < b) → RankOf b r → hop_of ku kl (step k a b) r p ≡ some x →
-      RankOf (left (kind_in k) b) x
-  rank-on r x p k a b f t l h =
-      leads-rank (record { kind = k; age = a; count = b; ku = ku; kl = kl }) (record { few = f; touched = t; upper = hu; lower = hl }) r x l
-      (record { at = p; lands = h })
+steps-few : {c : ℕ} {ss : List Step} → Steps c ss → c ≤ 6
+steps-few (nil h) = h
+steps-few full = omega arith
+steps-few (begins h u) = omega arith
+steps-few (meets h f u) = f
+steps-few (ends h f u) = f
+steps-few (rests f u) = f
+
+-- a net that the first step touches is open, and its rank is one of the nets that it finds
+steps-ready : {c : ℕ} {s : Step} {ss : List Step} {x : ℕ} → Steps c (s ∷ ss) → RankOf c x → Ready s x
+steps-ready full l = record { few = omega arith; touched = λ e. absurd (of-true e); rank = l }
+steps-ready (begins h u) l = record { few = omega arith; touched = λ e. absurd (of-true e); rank = l }
+steps-ready (meets h f u) l = record { few = f; touched = λ e. h; rank = l }
+steps-ready (ends h f u) l = record { few = f; touched = λ e. h; rank = l }
+steps-ready (rests f u) l = record { few = f; touched = λ e. absurd (of-true e); rank = l }
+
+-- the first step, which finds no net open, touches none
+pub first-begins : {c : ℕ} {s : Step} {ss : List Step} → Steps c (s ∷ ss) → c ≡ 0 → IsTrue (touches s.kind) → ⊥
+first-begins full z e = of-true e
+first-begins (begins h u) z e = of-true e
+first-begins (meets h f u) z e = omega arith
+first-begins (ends h f u) z e = omega arith
+first-begins (rests f u) z e = of-true e
+
+module _ (st : Streets) where
+  rank-on : (r x p : ℕ) (s : Step) → Ready s r → hop_of st.upper st.lower s r p ≡ some x → RankOf (left s.kind s.count) x
+  rank-on r x p s d h =
+      leads-rank (record { step = s; streets = st }) (record { few = d.few; touched = d.touched }) r x d.rank (record { at = p; lands = h })
 
   -- past one step
-  past : {b k a c : ℕ} {ss : List Step} (r x p : ℕ) → Steps b (step k a c ∷ ss) → RankOf b r → hop_of ku kl (step k a c) r p ≡ some x →
-      Comes (left (kind_in k) b) ss x
-  unfolding left kind_in
-  past r x p (full {a}) l h =
-      let m : 7 ≤ ku + kl = (hop-made ku kl 0 a 6 r p x h).left-open in
-      absurd (omega arith)
+  past : {b : ℕ} {s : Step} {ss : List Step} (r x p : ℕ) → Steps b (s ∷ ss) → RankOf b r → hop_of st.upper st.lower s r p ≡ some x →
+      Comes (left s.kind b) ss x
+  unfolding left
+  past r x p (full {a} {ss}) l h =
+      let m : 7 ≤ st.upper + st.lower = (hop-made st.upper st.lower B a 6 r p x h).left-open in
+      absurd (omega (arith, st.upper_few, st.lower_few))
   past r x p (begins {a} {b} q u) l h =
-      record { plan = u; rank = rank-on r x p 0 a b (omega arith) (λ z v. absurd (omega arith)) l h }
-  past r x p (meet {k} {a} {b} z q j f u) l h = record { plan = u; rank = rank-on r x p k a b f (λ v w. j) l h }
-  past r x p (rests {a} {b} f u) l h = record { plan = u; rank = rank-on r x p 3 a b f (λ v w. absurd (omega arith)) l h }
+      record { plan = u; rank = rank-on r x p (step B a b) (steps-ready (begins {a = a} q u) l) h }
+  past r x p (meets {a} {b} q f u) l h =
+      record { plan = u; rank = rank-on r x p (step M a b) (steps-ready (meets {a = a} q f u) l) h }
+  past r x p (ends {a} {b} q f u) l h =
+      record { plan = u; rank = rank-on r x p (step E a b) (steps-ready (ends {a = a} q f u) l) h }
+  past r x p (rests {a} {b} f u) l h =
+      record { plan = u; rank = rank-on r x p (step N a b) (steps-ready (rests {a = a} f u) l) h }
 
   -- a run through the first steps comes to the others with a rank of the nets that are then open
   pub steps-rest : (i b : ℕ) (ss : List Step) (r x : ℕ) (ps : List ℕ) → Steps b ss → RankOf b r →
-      hops ku kl (take i ss) r ps ≡ some x → Comes (open_after b (take i ss)) (drop i ss) x
+      hops st.upper st.lower (take i ss) r ps ≡ some x → Comes (open_after b (take i ss)) (drop i ss) x
   unfolding open_after
   steps-rest zero b ss r x ps t l e =
-      let m : r ≡ x = (hops-nil ku kl r x ps e).1 in
+      let m : r ≡ x = (hops-nil st.upper st.lower r x ps e).1 in
       record { plan = t; rank = rw (← m) l }
   steps-rest (suc i) b [] r x ps t l e =
-      let m : r ≡ x = (hops-nil ku kl r x ps e).1 in
+      let m : r ≡ x = (hops-nil st.upper st.lower r x ps e).1 in
       record { plan = t; rank = rw (← m) l }
-  steps-rest (suc i) b (step k a c ∷ ss) r x ps t l e =
-      let (p, qs, y, w, h, j) = hops-first ku kl (step k a c) (take i ss) r x ps e in
+  steps-rest (suc i) b (s ∷ ss) r x ps t l e =
+      let (p, qs, y, w, h, j) = hops-first st.upper st.lower s (take i ss) r x ps e in
       let n = past r y p t l h in
-      steps-rest i (left (kind_in k) b) ss y x qs n.plan n.rank j
+      steps-rest i (left s.kind b) ss y x qs n.plan n.rank j
 
   -- a way's rank is one of the nets that are then open
-  pub way-comes : (i : ℕ) (ss : List Step) (x : ℕ) → Steps 0 ss → Way ku kl (take i ss) x →
+  pub way-comes : (i : ℕ) (ss : List Step) (x : ℕ) → Steps 0 ss → Way st.upper st.lower (take i ss) x →
       Comes (open_after 0 (take i ss)) (drop i ss) x
   way-comes i ss x t w = steps-rest i 0 ss 0 x w.ps t (record { below = fact-pos 0; inner = λ e. absurd (omega arith); middle = λ e. absurd (omega arith) }) w.runs
 
-  steps-few : {c : ℕ} {ss : List Step} → Steps c ss → c ≤ 6
-  steps-few (nil h) = h
-  steps-few full = omega arith
-  steps-few (begins h u) = omega arith
-  steps-few (meet z q j f u) = f
-  steps-few (rests f u) = f
-
   -- every rank of a way is one of a gap's
-  pub way-below : (i : ℕ) (ss : List Step) (x : ℕ) → Steps 0 ss → Way ku kl (take i ss) x → x < ranks
+  pub way-below : (i : ℕ) (ss : List Step) (x : ℕ) → Steps 0 ss → Way st.upper st.lower (take i ss) x → x < ranks
   way-below i ss x t w =
       let n = way-comes i ss x t w in
       omega (arith, n.rank.below, fact-six (open_after 0 (take i ss)) (steps-few n.plan))
 
-  ready : {c : ℕ} {ss : List Step} (k a b x : ℕ) (ts : List Step) → ss ≡ step k a b ∷ ts → Steps c ss → RankOf c x → Ready k a b x
-  ready k a b x ts e (nil h) l = let z : ◌≡◌ {A = ℕ} 0 1 = cc in absurd (omega arith)
-  ready k a b x ts e full l =
-      let n : 6 ≡ b = cc in
-      let m : 0 ≡ k = cc in
-      record { few = omega arith; touched = λ h v. absurd (omega arith); rank = rw (← n) l }
-  ready k a b x ts e (begins {b = d} h u) l =
-      let n : d ≡ b = cc in
-      let m : 0 ≡ k = cc in
-      record { few = omega arith; touched = λ v w. absurd (omega arith); rank = rw (← n) l }
-  ready k a b x ts e (meet {a = c} {b = d} z q j f u) l =
-      let n : d ≡ b = cc in
-      let m : c ≡ a = cc in
-      record { few = omega arith; touched = λ v w. omega arith; rank = rw (← n) l }
-  ready k a b x ts e (rests {b = d} f u) l =
-      let n : d ≡ b = cc in
-      let m : 3 ≡ k = cc in
-      record { few = omega arith; touched = λ v w. absurd (omega arith); rank = rw (← n) l }
-
   -- it is one of the nets that the next step finds open, and touches one of
-  pub way-ready : (i : ℕ) (ss : List Step) (d : Step) (k a b x : ℕ) → Steps 0 ss → i < length ss → get_or ss i d ≡ step k a b →
-      Way ku kl (take i ss) x → Ready k a b x
-  way-ready i ss d k a b x t l e w =
+  pub way-ready : (i : ℕ) (ss : List Step) (d : Step) (x : ℕ) → Steps 0 ss → i < length ss →
+      Way st.upper st.lower (take i ss) x → Ready (get_or ss i d) x
+  way-ready i ss d x t l w =
       let n = way-comes i ss x t w in
-      ready k a b x (drop (suc i) ss) (drop-cons ss i d l ∙ ap (λ s. s ∷ drop (suc i) ss) e) n.plan n.rank
-
--- the first step, which finds no net open, is a B or a blank
-pub first-begins : {c : ℕ} {ss : List Step} (k a b : ℕ) (ts : List Step) → ss ≡ step k a b ∷ ts → Steps c ss → c ≡ 0 → 0 < k → k < 3 → ⊥
-first-begins k a b ts e (nil h) z l n = let q : ◌≡◌ {A = ℕ} 0 1 = cc in omega arith
-first-begins k a b ts e full z l n = omega arith
-first-begins k a b ts e (begins h u) z l n = let m : 0 ≡ k = cc in omega arith
-first-begins k a b ts e (meet w q j f u) z l n = omega arith
-first-begins k a b ts e (rests f u) z l n = let m : 3 ≡ k = cc in omega arith
-
--- the steps that three lists hold, one by one
-pub steps-length : (ks xs cs : List ℕ) → length (steps ks xs cs) ≡ length ks
-unfolding steps
-steps-length ks xs cs = length-tabulate (λ i. step (get_or ks i 0) (get_or xs i 0) (get_or cs i 0)) (length ks)
-
-pub steps-at : (ks xs cs : List ℕ) (i : ℕ) (d : Step) → i < length ks →
-    get_or (steps ks xs cs) i d ≡ step (get_or ks i 0) (get_or xs i 0) (get_or cs i 0)
-unfolding steps
-steps-at ks xs cs i d l = get_d_tabulate (λ i. step (get_or ks i 0) (get_or xs i 0) (get_or cs i 0)) (length ks) i d l
+      let p : Steps (open_after 0 (take i ss)) (get_or ss i d ∷ drop (suc i) ss) = rw (drop-cons ss i d l) at n.plan in
+      steps-ready p n.rank

@@ -2,18 +2,15 @@
 use Rattle.std.specs.Prelude.{◌≡◌, Bool, true, false, List, ◌⊎◌, ℕ, suc, ◌+◌, ◌*◌, ◌<◌, ◌≤◌, length, take, drop}
 use Rattle.std.proofs.Math.Option.{some}
 use Rattle.rules.specs.Street.{Earlier}
-use Rattle.steps.specs.Plan.{Step, Steps, steps}
+use Rattle.steps.specs.declared.plan.Step.{Step}
+use Rattle.steps.specs.Plan.{Steps}
 use Rattle.steps.specs.Ranks.{fact, hops, Way, Ahead}
 use Rattle.steps.specs.Sets.{ranks, stretch, marked}
 
--- what the passes are given: three lists of one length that hold steps, bytes for a gap after each, the tracks of two streets
-pub record Given (kinds ages counts work : List ℕ) (ku kl : ℕ) : Type 0 where
-  pub aged : length ages ≡ length kinds
-  pub counted : length counts ≡ length kinds
-  pub room : stretch * length kinds ≤ length work
-  pub plan : Steps 0 (steps kinds ages counts)
-  pub upper : ku ≤ 3
-  pub lower : kl ≤ 3
+-- what the passes are given: a plan of steps that they can follow, and bytes for a gap after each
+pub record Given (ss : List Step) (work : List ℕ) : Type 0 where
+  pub room : stretch * length ss ≤ length work
+  pub plan : Steps 0 ss
 
 -- the gaps of the first n steps hold exactly the ranks that ways lead to
 pub record Filled (ku kl : ℕ) (ss : List Step) (n : ℕ) (s : List ℕ) : Type 0 where

@@ -1,70 +1,54 @@
 // The router's passes over the sets of ranks, forward and back to prune, and what its last pass asks them.
-ghost use Rattle.std.specs.Prelude.{◌≡◌, true, ℕ, suc, ◌*◌, ◌≤◌, ◌<◌, length};
-ghost use Rattle.steps.specs.Plan.{steps};
+ghost use Rattle.std.specs.Prelude.{◌≡◌, MatchResult, true, ℕ, suc, ◌*◌, ◌≤◌, ◌<◌, length};
 ghost use Rattle.steps.specs.Ranks.{capacity, fact, RankOf};
 ghost use Rattle.steps.specs.Sets.{stretch, bit, marked, Loses};
-ghost use Rattle.steps.specs.Stops.{Sound, stop_of};
-ghost use Rattle.steps.specs.Four.{Tables};
-ghost use Rattle.steps.specs.Masks.{Sources};
+ghost use Rattle.steps.specs.Nodes.{ToPrune};
 ghost use Rattle.steps.specs.Leading.{Onward, Reached};
 ghost use Rattle.orders.specs.Passes.{Given, Forward, Filled, Passable, Pruned, Somewhere, Entry};
 
 use crate::reach::spread;
+use rules::{Kind, Streets};
 use steps::end::unend;
 use steps::open::{clear, unopen};
-use steps::rank::{Place, Stop, factorial};
+use steps::plan::{Step, Stop};
+use steps::rank::{Place, factorial};
 use steps::rest::prune_same;
+use steps::tables::Tables;
 use steps::word::word;
 
-// Marks in the gap after each node the ranks that ways lead to, whatever stood there, and tells how many nodes can be passed.
+// Marks in the gap after each node the ranks that ways lead to, whatever stood there, where all nodes can be passed; else tells how many can.
 pub fn forward(
     work: &mut [u8],
-    kinds: &[u8],
-    ages: &[u8],
-    counts: &[u8],
-    ku: u8,
-    kl: u8,
-    tables: &[u32],
-) -> usize
-    requires given { Given kinds.now ages.now counts.now work.old ku kl }
-    requires tables { Tables tables.now }
-    ensures { Forward ku kl (steps kinds.now ages.now counts.now) work.old work.new result }
+    plan: &[Step],
+    streets: Streets,
+    tables: Tables,
+) -> Result<(), usize>
+    requires { Given plan.now work.old }
+    ensures { MatchResult
+        result
+        (λ _. Forward streets.upper streets.lower plan.now work.old work.new (length plan.now))
+        (λ n. Forward streets.upper streets.lower plan.now work.old work.new n × (n < length plan.now)) }
 {
-    let n = kinds.len();
-    let mut i = 0;
-    while i < n {
-        let stop = stop_at(kinds, ages, counts, ku, kl, i);
-        clear(work, i);
-        if spread(work, i, stop, tables) {
-            return i;
+    for (g, &step) in plan.iter().enumerate() {
+        clear(work, g);
+        if spread(work, g, Stop { step, streets }, tables) {
+            return Err(g);
         }
-        i += 1;
     }
-    n
+    Ok(())
 }
 
 // Leaves in each gap only the ranks from which the nodes after it can be passed.
-pub fn prune(
-    work: &mut [u8],
-    kinds: &[u8],
-    ages: &[u8],
-    counts: &[u8],
-    ku: u8,
-    kl: u8,
-    tables: &[u32],
-)
-    requires given { Given kinds.now ages.now counts.now work.old ku kl }
-    requires filled { Filled ku kl (steps kinds.now ages.now counts.now) (length kinds.now) work.old }
-    requires passable { Passable ku kl (steps kinds.now ages.now counts.now) }
-    requires tables { Tables tables.now }
-    ensures { Pruned ku kl (steps kinds.now ages.now counts.now) work.old work.new }
+pub fn prune(work: &mut [u8], plan: &[Step], streets: Streets, tables: Tables)
+    requires given { Given plan.now work.old }
+    requires filled { Filled streets.upper streets.lower plan.now (length plan.now) work.old }
+    requires passable { Passable streets.upper streets.lower plan.now }
+    ensures { Pruned streets.upper streets.lower plan.now work.old work.new }
 {
-    let mut i = kinds.len();
-    while 1 < i {
-        let at = i - 1;
-        let stop = stop_at(kinds, ages, counts, ku, kl, at);
-        prune_set(work, at - 1, stop, tables);
-        i = at;
+    // By index: the gap before a node has the number before its own.
+    for g in (1..plan.len()).rev() {
+        let step = plan[g];
+        prune_set(work, g - 1, Stop { step, streets }, tables);
     }
 }
 
@@ -76,31 +60,30 @@ pub fn enter(work: &[u8], g: usize, b: usize, r: usize) -> Place
     ensures { Entry (marked work.now g) b r result.at result.rest }
 {
     if b < 4 {
-        return enter_few(word(work, g, 0), b, r);
+        enter_few(word(work, g, 0), b, r)
+    } else if b == 4 {
+        enter_fifth(work, g, r)
+    } else {
+        enter_sixth(work, g, r)
     }
-    if b == 4 {
-        return enter_fifth(work, g, r);
-    }
-    enter_sixth(work, g, r)
 }
 
 // The same among at most three others, where one word has all ranks.
+// A loop of its own, no plainer with that of a fifth net, which reads a word for each place where this has all ranks in one.
 fn enter_few(w: u32, b: usize, r: usize) -> Place
     requires b_bound { (b < 4) × (r < fact b) }
     requires somewhere { Somewhere (bit w) b r }
     ensures { Entry (bit w) b r result.at result.rest }
 {
     let unit = factorial(b);
-    let mut p: usize = 0;
     let mut x = r;
-    while p < b {
+    for p in 0..b {
         if (w >> x) % 2 == 1 {
             return Place { at: p, rest: x };
         }
-        p += 1;
         x += unit;
     }
-    Place { at: p, rest: x }
+    Place { at: b, rest: x }
 }
 
 // The same for a fifth net, which has a word for each place.
@@ -109,19 +92,17 @@ fn enter_fifth(work: &[u8], g: usize, r: usize) -> Place
     requires somewhere { Somewhere (marked work.now g) 4 r }
     ensures { Entry (marked work.now g) 4 r result.at result.rest }
 {
-    let mut p: usize = 0;
-    while p < 4 {
+    for p in 0..4 {
         if (word(work, g, p) >> r) % 2 == 1 {
             return Place {
                 at: p,
                 rest: 24 * p + r,
             };
         }
-        p += 1;
     }
     Place {
-        at: p,
-        rest: 24 * p + r,
+        at: 4,
+        rest: 96 + r,
     }
 }
 
@@ -144,32 +125,15 @@ fn enter_sixth(work: &[u8], g: usize, r: usize) -> Place
     }
 }
 
-// Node i.
-pub fn stop_at(kinds: &[u8], ages: &[u8], counts: &[u8], ku: u8, kl: u8, i: usize) -> Stop
-    requires { (i < length kinds.now) × (length ages.now ≡ length kinds.now) × (length counts.now ≡ length kinds.now) }
-    ensures { result ≡ stop_of kinds.now ages.now counts.now ku kl i }
-{
-    Stop {
-        kind: kinds[i],
-        age: ages[i],
-        count: counts[i],
-        ku,
-        kl,
-    }
-}
-
 // Leaves in gap g only the ranks from which the node after it leads to a marked rank.
-fn prune_set(work: &mut [u8], g: usize, stop: Stop, tables: &[u32])
-    requires sound { Sound stop × (stretch * suc (suc g) ≤ length work.old) }
-    requires tables { Tables tables.now }
-    requires sources { Sources stop work.old (suc g) }
+fn prune_set(work: &mut [u8], g: usize, stop: Stop, tables: Tables)
+    requires given { ToPrune stop work.old g }
     requires by_index { (x : ℕ) → marked work.old (suc g) x ≡ true → Reached stop work.old (suc g) x }
     ensures { Loses work.old g (Onward stop work.old (suc g)) work.new }
 {
-    let kind = stop.kind;
-    match kind {
-        0 => unopen(work, g, stop),
-        2 => unend(work, g, stop, tables),
-        _ => prune_same(work, g, stop),
+    match stop.step.kind {
+        Kind::B => unopen(work, g, stop),
+        Kind::E => unend(work, g, stop, tables),
+        Kind::M | Kind::N => prune_same(work, g, stop),
     }
 }

@@ -6,9 +6,5 @@ ghost use Rattle.steps.specs.Sets.{Clear};
 pub fn wipe(work: &mut [u8])
     ensures { (length work.new ≡ length work.old) × Clear work.new }
 {
-    let mut i = 0;
-    while i < work.len() {
-        work[i] = 0;
-        i += 1;
-    }
+    work.fill(0);
 }

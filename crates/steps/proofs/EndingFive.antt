@@ -300,6 +300,18 @@ module _ (a b c d : ℕ) (ha : a < 64) (hb : b < 64) (hc : c < 64) where
 passing-or : (s t : ℕ → Bool) (y z : ℕ) → Passing s y → Passing t z → Passing (λ i. s i || t i) (bit_or y z)
 passing-or s t y z p q = record { bits = λ i h. bit-or y z i ∙ ap₂ ◌||◌ (p.bits i h) (q.bits i h) }
 
+-- the orders of z that leave one of n with the youngest at d
+pub passing-back : (e n d z y : ℕ) → Pulls (left_of e) (n / 2 ^ (6 * d) % 64) y → Passing (λ i. bit z i && bit n (6 * d + left_of e i)) (bit_and z y)
+passing-back e n d z y b =
+    record {
+      bits = λ i h. bit-and z y i ∙
+          ap (λ v. bit z i && v) (b.bits i h ∙ bit-mod (n / 2 ^ (6 * d)) 6 (left_of e i) (left_lt e i h) ∙ bit-shr n (6 * d) (left_of e i));
+    }
+
+-- a test of the bits of a set is one of what the set is of
+pub passing-both : {s : ℕ → Bool} {y z : ℕ} (t : ℕ → Bool) → Passing s y → Passing (λ i. bit y i && t i) z → Passing (λ i. s i && t i) z
+passing-both t p q = record { bits = λ i h. q.bits i h ∙ ap (λ v. v && t i) (p.bits i h) }
+
 -- another than the youngest ends, with e elders
 module _ (e l : ℕ) (he : e < 4) where
   -- its place and what is left, where the youngest is at k and the others have rank i
@@ -416,14 +428,6 @@ module _ (e l : ℕ) (he : e < 4) where
 
     abbrev under_from : (d i : ℕ) → Bool
     under_from d i = under_at e l d i && bit n (6 * d + left_of e i)
-
-    pub passing-back : (t : ℕ → Bool) (d z y : ℕ) → Passing t z → Pulls (left_of e) (n / 2 ^ (6 * d) % 64) y →
-        Passing (λ i. t i && bit n (6 * d + left_of e i)) (bit_and z y)
-    passing-back t d z y p b =
-        record {
-          bits = λ i h. bit-and z y i ∙ ap₂ ◌&&◌ (p.bits i h) (b.bits i h ∙ bit-mod (n / 2 ^ (6 * d)) 6 (left_of e i) (left_lt e i h) ∙
-              bit-shr n (6 * d) (left_of e i));
-        }
 
     -- what a word for the youngest at k says
     module _ (k i : ℕ) (hi : i < 24) where

@@ -10,7 +10,8 @@ use lib.Bits.{bit_and}
 use lib.Dec.{eqb, leb, ltb}
 use lib.Pow.{pow_pos}
 use borrow.Author.Tests.{eqb-true, eqb-false, ltb-true, ltb-false, leb-true, leb-false}
-use Rattle.steps.specs.declared.rank.Stop.{Stop}
+use Rattle.rules.specs.declared.Kind.TheVariants.{E}
+use Rattle.steps.specs.declared.plan.Stop.{Stop}
 use Rattle.steps.specs.declared.end.Five.{Five}
 use Rattle.steps.specs.Ranks.{fact}
 use Rattle.steps.specs.Sets.{ranks, slots, slot, word_at, bit, marked, source, Written, Empty, Some, Bare, Exactly, Loses}
@@ -99,17 +100,17 @@ legal-inside ku kl l hu hl f =
     record { top = a; below = omega (arith, f.below, eqb-false (l / 16 % 2) 1 b) }
 
 -- five nets are open
-module _ (t : Stop) (l : ℕ) (sound : Sound t) (ends : t.kind ≡ 2) (legal : Legal t.ku t.kl 5 l) (five : t.count ≡ 5) (s : List ℕ)
+module _ (t : Stop) (l : ℕ) (sound : Sound t) (ends : t.step.kind ≡ E) (legal : Legal t.streets.upper t.streets.lower 5 l) (five : t.step.count ≡ 5) (s : List ℕ)
     (g : ℕ) where
-  legal-here : Legal t.ku t.kl t.count l
+  legal-here : Legal t.streets.upper t.streets.lower t.step.count l
   legal-here = rw five legal
 
   pub five-exactly : (f : Five) (n : ℕ) (u : List ℕ) → ((j : ℕ) → 1 ≤ j → j < 4 → nth f j ≡ word_before s g (0 + j)) → Sources t s g → Empty s g →
-      Gone 5 t.age l (within f) n → Written s g 0 n u → Exactly s g (Reached t s g) u
+      Gone 5 t.step.age l (within f) n → Written s g 0 n u → Exactly s g (Reached t s g) u
   unfolding fact
   five-exactly f n u h from z o w =
       gone-exactly t l sound ends legal-here (omega arith) s g n u z
-      (rw five (gone_same 5 t.age l (within f) (source s g) n (λ r m. sym (same r m)) o)) w
+      (rw five (gone_same 5 t.step.age l (within f) (source s g) n (λ r m. sym (same r m)) o)) w
     where
       none-there : (r : ℕ) → r < 120 → (24 ≤ r → r < 96 → ⊥) → source s g r ≡ false
       none-there r m n = go (source s g r) refl
@@ -138,7 +139,7 @@ module _ (t : Stop) (l : ℕ) (sound : Sound t) (ends : t.kind ≡ 2) (legal : L
               none-there r m n ∙ sym (outer-none f r n)
 
   pub five-loses : (f : Five) (n : ℕ) (u : List ℕ) → n ≡ word_at s (suc g) 0 →
-      ((r : ℕ) → 24 ≤ r → r < 96 → within f r ≡ comes 5 t.age l n r) → Sources t s (suc g) →
+      ((r : ℕ) → 24 ≤ r → r < 96 → within f r ≡ comes 5 t.step.age l n r) → Sources t s (suc g) →
       Anded s g (λ j. nth f (j - 0)) (between (0 + 1) (0 + 4)) u → Loses s g (Onward t s (suc g)) u
   unfolding fact source
   five-loses f n u q h from c =
@@ -246,7 +247,7 @@ module _ (j : ℕ) where
   pub high-place : between (10 + 1) (10 + 4) j ≡ true → (11 ≤ j) × (j < 14)
   high-place i = between-out 11 14 j i
 
-pub six-loses : (t : Stop) (six : t.count ≡ 6) (s : List ℕ) (g : ℕ) (f : Five) (u v : List ℕ) → Sources t s (suc g) → SixBack t s g f →
+pub six-loses : (t : Stop) (six : t.step.count ≡ 6) (s : List ℕ) (g : ℕ) (f : Five) (u v : List ℕ) → Sources t s (suc g) → SixBack t s g f →
     Anded s g (λ j. nth f (j - 5)) (between (5 + 1) (5 + 4)) u → Anded u g (λ j. nth f (j - 10)) (between (10 + 1) (10 + 4)) v →
     Loses s g (Onward t s (suc g)) v
 unfolding source

@@ -9,8 +9,10 @@ use native.Mathlib.Omega.{arith}
 use lib.Bits.{bit_and}
 use lib.Dec.{eqb}
 use borrow.Author.Tests.{eqb-true, eqb-false, eq-eqb}
+use Rattle.rules.specs.declared.Kind.{Kind}
+use Rattle.rules.specs.declared.Kind.TheVariants.{E}
 use Rattle.rules.specs.Street.{fits}
-use Rattle.steps.specs.declared.rank.Stop.{Stop}
+use Rattle.steps.specs.declared.plan.Stop.{Stop}
 use Rattle.steps.specs.Plan.{step}
 use Rattle.steps.specs.Ranks.{fact, at_of, less_of, hop_of}
 use Rattle.steps.specs.Sets.{ranks, held, slot, word_at, bit, marked, source, Written, Empty, Bare, Exactly, Loses}
@@ -21,7 +23,7 @@ use Rattle.steps.specs.Four.{Legal, word_before, Gone, comes, Anded}
 use Rattle.steps.proofs.Ranks.{at_lt, less-lt, fact-most}
 use Rattle.steps.proofs.Slots.{held-few, slot-few, slot_cases, slot-below}
 use Rattle.steps.proofs.Words.{bit-and, bit-zero, bit-power, bit-power-other, bit-some}
-use Rattle.steps.proofs.Hops.{hop-ends, hop-elsewhere, hop-unmet, none-some, same_some}
+use Rattle.steps.proofs.Hops.{touched-at, hop-ends, hop-elsewhere, hop-unmet, none-some, same_some}
 use Rattle.steps.proofs.Bits.{not-both, marked-bit, marked-held, marked-same}
 use Rattle.steps.proofs.FourSets.{and_both, and-true}
 use Rattle.steps.proofs.EndingFew.{fact-four}
@@ -88,55 +90,55 @@ module _ (s : List ℕ) (g k n : ℕ) (u : List ℕ) (hk : k < 5) (w : Written s
           record { rank = 24 * k + i; within = omega arith; is = put_full (24 * k + i) (omega arith) (rw d e) }
 
 -- what a hop over an ending says
-module _ (ku kl k a b r p x : ℕ) (ek : k ≡ 2) where
+module _ (ku kl : ℕ) (k : Kind) (a b r p x : ℕ) (ek : k ≡ E) where
   pub ends-made : hop_of ku kl (step k a b) r p ≡ some x →
       (p ≡ at_of a b r) × (fits ku kl (suc (at_of a b r)) b ≡ true) × (less_of a b r ≡ x)
   ends-made e = go (eqb p (at_of a b r)) (fits ku kl (suc p) b) refl refl
     where
       go : (c d : Bool) → eqb p (at_of a b r) ≡ c → fits ku kl (suc p) b ≡ d →
           (p ≡ at_of a b r) × (fits ku kl (suc (at_of a b r)) b ≡ true) × (less_of a b r ≡ x)
-      go false d q f = none-some (hop-elsewhere ku kl k a b r p (omega arith) (omega arith) (eqb-false p (at_of a b r) q)) e
-      go true false q f = none-some (hop-unmet ku kl k a b r p (omega arith) (omega arith) f) e
+      go false d q f = none-some (hop-elsewhere ku kl k a b r p (rw ek refl) (eqb-false p (at_of a b r) q)) e
+      go true false q f = none-some (hop-unmet ku kl k a b r p (rw ek refl) f) e
       go true true q f =
           let m : p ≡ at_of a b r = eqb-true p (at_of a b r) q in
           (m, rw m at f, same_some (hop-ends ku kl k a b r p ek m f) e)
 
 -- a stop at which a net ends, and where it may stand
-module _ (t : Stop) (l : ℕ) (sound : Sound t) (ends : t.kind ≡ 2) (legal : Legal t.ku t.kl t.count l) where
+module _ (t : Stop) (l : ℕ) (sound : Sound t) (ends : t.step.kind ≡ E) (legal : Legal t.streets.upper t.streets.lower t.step.count l) where
   abbrev b : ℕ
-  b = t.count
+  b = t.step.count
 
   abbrev a : ℕ
-  a = t.age
+  a = t.step.age
 
   among : a < b
-  among = sound.touched (omega arith) (omega arith)
+  among = touched-at t sound E ends refl
 
-  stands : (r : ℕ) → r < fact b → bit l (at_of a b r) ≡ fits t.ku t.kl (suc (at_of a b r)) b
+  stands : (r : ℕ) → r < fact b → bit l (at_of a b r) ≡ fits t.streets.upper t.streets.lower (suc (at_of a b r)) b
   stands r h = legal.bits (at_of a b r) (at_lt a b r among h)
 
   pub end-leads : (r x : ℕ) → r < fact b → bit l (at_of a b r) ≡ true → less_of a b r ≡ x → Leads t r x
   end-leads r x h o e =
       record {
         at = at_of a b r;
-        lands = hop-ends t.ku t.kl t.kind a b r (at_of a b r) ends refl (sym (stands r h) ∙ o) ∙ ap some e;
+        lands = hop-ends t.streets.upper t.streets.lower t.step.kind a b r (at_of a b r) ends refl (sym (stands r h) ∙ o) ∙ ap some e;
       }
 
   pub leads-end : (r x : ℕ) → r < fact b → Leads t r x → (bit l (at_of a b r) ≡ true) × (less_of a b r ≡ x)
   leads-end r x h m =
-      let (p, f, e) = ends-made t.ku t.kl t.kind a b r m.at x ends m.lands in
+      let (p, f, e) = ends-made t.streets.upper t.streets.lower t.step.kind a b r m.at x ends m.lands in
       (stands r h ∙ f, e)
 
   left_lt : (r : ℕ) → r < fact b → less_of a b r < fact (b - 1)
   left_lt r h = less-lt a b r among h
 
 -- at most five nets are open: what is left is in slot 0
-module _ (t : Stop) (l : ℕ) (sound : Sound t) (ends : t.kind ≡ 2) (legal : Legal t.ku t.kl t.count l) (few : t.count ≤ 5) where
-  below : (r : ℕ) → r < fact t.count → less_of t.age t.count r < 24
+module _ (t : Stop) (l : ℕ) (sound : Sound t) (ends : t.step.kind ≡ E) (legal : Legal t.streets.upper t.streets.lower t.step.count l) (few : t.step.count ≤ 5) where
+  below : (r : ℕ) → r < fact t.step.count → less_of t.step.age t.step.count r < 24
   unfolding fact
-  below r h = omega (arith, left_lt t l sound ends legal r h, fact-most (t.count - 1) 4 (omega arith))
+  below r h = omega (arith, left_lt t l sound ends legal r h, fact-most (t.step.count - 1) 4 (omega arith))
 
-  pub gone-exactly : (s : List ℕ) (g n : ℕ) (u : List ℕ) → Empty s g → Gone t.count t.age l (source s g) n → Written s g 0 n u →
+  pub gone-exactly : (s : List ℕ) (g n : ℕ) (u : List ℕ) → Empty s g → Gone t.step.count t.step.age l (source s g) n → Written s g 0 n u →
       Exactly s g (Reached t s g) u
   gone-exactly s g n u z o w =
       record {
@@ -219,30 +221,30 @@ module _ (s : List ℕ) (g : ℕ) (m : ℕ → ℕ) (K : ℕ → Bool) (u : List
       own x d e = anded-own x e (here x d e)
 
 -- at most five nets are open: a rank leads on exactly where it leaves one of the next gap's slot 0
-module _ (t : Stop) (l : ℕ) (sound : Sound t) (ends : t.kind ≡ 2) (legal : Legal t.ku t.kl t.count l) (few : t.count ≤ 5)
+module _ (t : Stop) (l : ℕ) (sound : Sound t) (ends : t.step.kind ≡ E) (legal : Legal t.streets.upper t.streets.lower t.step.count l) (few : t.step.count ≤ 5)
     (s : List ℕ) (g : ℕ) where
   abbrev passes : ℕ → Bool
-  passes x = comes t.count t.age l (word_at s (suc g) 0) x
+  passes x = comes t.step.count t.step.age l (word_at s (suc g) 0) x
 
-  comes-onward : (x : ℕ) → x < fact t.count → passes x ≡ true → Onward t s (suc g) x
+  comes-onward : (x : ℕ) → x < fact t.step.count → passes x ≡ true → Onward t s (suc g) x
   comes-onward x h e =
-      let (i, o) = and_both (bit l (at_of t.age t.count x)) (bit (word_at s (suc g) 0) (less_of t.age t.count x)) e in
-      let m : less_of t.age t.count x < 24 = below t l sound ends legal few x h in
+      let (i, o) = and_both (bit l (at_of t.step.age t.step.count x)) (bit (word_at s (suc g) 0) (less_of t.step.age t.step.count x)) e in
+      let m : less_of t.step.age t.step.count x < 24 = below t l sound ends legal few x h in
       record {
-        next = less_of t.age t.count x;
+        next = less_of t.step.age t.step.count x;
         within = omega arith;
-        leads = end-leads t l sound ends legal x (less_of t.age t.count x) h i refl;
-        kept = first_slot s (suc g) (less_of t.age t.count x) m ∙ o;
+        leads = end-leads t l sound ends legal x (less_of t.step.age t.step.count x) h i refl;
+        kept = first_slot s (suc g) (less_of t.step.age t.step.count x) m ∙ o;
       }
 
-  onward-comes : (x : ℕ) → x < fact t.count → Onward t s (suc g) x → passes x ≡ true
+  onward-comes : (x : ℕ) → x < fact t.step.count → Onward t s (suc g) x → passes x ≡ true
   onward-comes x h o =
       let (i, e) = leads-end t l sound ends legal x o.next h o.leads in
       let m : o.next < 24 = rw e at (below t l sound ends legal few x h) in
-      and-true (bit l (at_of t.age t.count x)) (bit (word_at s (suc g) 0) (less_of t.age t.count x)) i
+      and-true (bit l (at_of t.step.age t.step.count x)) (bit (word_at s (suc g) 0) (less_of t.step.age t.step.count x)) i
       (rw e (sym (first_slot s (suc g) o.next m) ∙ o.kept))
 
-  pub comes-loses : (m : ℕ → ℕ) (K : ℕ → Bool) (u : List ℕ) → ((x : ℕ) → x < ranks → marked s g x ≡ true → x < fact t.count) →
+  pub comes-loses : (m : ℕ → ℕ) (K : ℕ → Bool) (u : List ℕ) → ((x : ℕ) → x < ranks → marked s g x ≡ true → x < fact t.step.count) →
       ((x : ℕ) → x < ranks → marked s g x ≡ true → (K (slot x) ≡ true) × (bit (m (slot x)) (x % 24) ≡ passes x)) →
       Anded s g m K u → Loses s g (Onward t s (suc g)) u
   comes-loses m K u f k c =
@@ -261,7 +263,7 @@ gone_same b a l P Q n f o =
     }
 
 -- the ranks before a node are of the nets that are open there
-pub marks-below : (t : Stop) (s : List ℕ) (g : ℕ) → Sources t s (suc g) → (x : ℕ) → x < ranks → marked s g x ≡ true → x < fact t.count
+pub marks-below : (t : Stop) (s : List ℕ) (g : ℕ) → Sources t s (suc g) → (x : ℕ) → x < ranks → marked s g x ≡ true → x < fact t.step.count
 unfolding source
 marks-below t s g f x l e = (f x e).below
 
@@ -288,15 +290,15 @@ next_word s g k n e =
     rw d at e
 
 -- back over an ending of at most four
-pub few-loses : (t : Stop) (l : ℕ) → Sound t → t.kind ≡ 2 → Legal t.ku t.kl t.count l → t.count ≤ 4 → (s : List ℕ) (g : ℕ) →
-    ((x : ℕ) → x < ranks → marked s g x ≡ true → x < fact t.count) → (n z : ℕ) → n ≡ word_at s (suc g) 0 →
-    ((r : ℕ) → r < fact t.count → bit z r ≡ comes t.count t.age l n r) → (u : List ℕ) →
+pub few-loses : (t : Stop) (l : ℕ) → Sound t → t.step.kind ≡ E → Legal t.streets.upper t.streets.lower t.step.count l → t.step.count ≤ 4 → (s : List ℕ) (g : ℕ) →
+    ((x : ℕ) → x < ranks → marked s g x ≡ true → x < fact t.step.count) → (n z : ℕ) → n ≡ word_at s (suc g) 0 →
+    ((r : ℕ) → r < fact t.step.count → bit z r ≡ comes t.step.count t.step.age l n r) → (u : List ℕ) →
     Written s g 0 (bit_and (word_at s g 0) z) u → Loses s g (Onward t s (suc g)) u
 few-loses t l d ends legal few s g f n z q k u w =
     comes-loses t l d ends legal (omega arith) s g (λ j. z) (λ j. eqb j 0) u f
     (λ x b i.
     let h = f x b i in
-    let m : x < 24 = omega (arith, fact-four t.count few) in
+    let m : x < 24 = omega (arith, fact-four t.step.count few) in
     let v : x % 24 ≡ x = omega arith in
     let e = slot-few x (omega arith) in
     (eq-eqb (slot x) 0 (omega arith), rw (v, ← q) (k x h))) (written-anded s g 0 z u w)

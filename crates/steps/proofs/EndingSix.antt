@@ -9,10 +9,11 @@ use native.Mathlib.Omega.{arith}
 use lib.Bits.{bit_or}
 use lib.Dec.{eqb, leb}
 use borrow.Author.Tests.{eqb-true, eqb-false, ne_eqb, leb-true, leb-false}
+use Rattle.rules.specs.declared.Kind.TheVariants.{E}
 use Rattle.rules.specs.Basic.{pick}
 use Rattle.rules.specs.Street.{fits}
 use Rattle.rules.proofs.Fits.{Fits}
-use Rattle.steps.specs.declared.rank.Stop.{Stop}
+use Rattle.steps.specs.declared.plan.Stop.{Stop}
 use Rattle.steps.specs.declared.end.Five.{Five}
 use Rattle.steps.specs.Ranks.{fact, under, spared, at_of, less_of}
 use Rattle.steps.specs.Sets.{slot, word_at, bit, marked, source}
@@ -23,7 +24,7 @@ use Rattle.steps.specs.Four.{word_before, Gone, comes, nth, within, SixLeft, Six
 use Rattle.steps.proofs.Ranks.{at-youngest, less-youngest, at-older, less-older, less-lt, under-above, under-below, spared-above, spared-below}
 use Rattle.steps.proofs.Slots.{held-few, held-middle, slot-few, slot-middle}
 use Rattle.steps.proofs.Words.{bit-or, bit-zero, bit-power, bit-power-other}
-use Rattle.steps.proofs.Hops.{fits-fits, fitting, hop-ends}
+use Rattle.steps.proofs.Hops.{touched-at, fits-fits, fitting, hop-ends}
 use Rattle.steps.proofs.Bits.{not-both, marked-bit}
 use Rattle.steps.proofs.FourSets.{either, or-first, or-second, and_both, and-true}
 use Rattle.steps.proofs.EndingSets.{word_source, ends-made}
@@ -109,45 +110,45 @@ pub third-inside : Inside 4
 third-inside = record { top = bit-power-other 2 0 (λ e. omega arith); below = omega arith }
 
 -- a stop with six nets open at which one ends
-module _ (t : Stop) (ok : Sound t) (ends : t.kind ≡ 2) (six : t.count ≡ 6) where
-  six-leads : (r x : ℕ) → 6 ≤ t.ku + t.kl → 2 ≤ at_of t.age 6 r → at_of t.age 6 r ≤ 3 → less_of t.age 6 r ≡ x → Leads t r x
+module _ (t : Stop) (ok : Sound t) (ends : t.step.kind ≡ E) (six : t.step.count ≡ 6) where
+  six-leads : (r x : ℕ) → 6 ≤ t.streets.upper + t.streets.lower → 2 ≤ at_of t.step.age 6 r → at_of t.step.age 6 r ≤ 3 → less_of t.step.age 6 r ≡ x → Leads t r x
   six-leads r x h a b e =
-      let f : fits t.ku t.kl (suc (at_of t.age 6 r)) 6 ≡ true =
-      fits-middle t.ku t.kl ok.upper ok.lower (at_of t.age 6 r) h a b in
+      let f : fits t.streets.upper t.streets.lower (suc (at_of t.step.age 6 r)) 6 ≡ true =
+      fits-middle t.streets.upper t.streets.lower t.streets.upper_few t.streets.lower_few (at_of t.step.age 6 r) h a b in
       record {
-        at = at_of t.age t.count r;
-        lands = hop-ends t.ku t.kl t.kind t.age t.count r (at_of t.age t.count r) ends refl (rw six f) ∙
+        at = at_of t.step.age t.step.count r;
+        lands = hop-ends t.streets.upper t.streets.lower t.step.kind t.step.age t.step.count r (at_of t.step.age t.step.count r) ends refl (rw six f) ∙
             ap some (rw six e);
       }
 
   leads-six : (r x : ℕ) → Leads t r x →
-      (2 ≤ at_of t.age 6 r) × (at_of t.age 6 r ≤ 3) × (6 ≤ t.ku + t.kl) × (less_of t.age 6 r ≡ x)
+      (2 ≤ at_of t.step.age 6 r) × (at_of t.step.age 6 r ≤ 3) × (6 ≤ t.streets.upper + t.streets.lower) × (less_of t.step.age 6 r ≡ x)
   leads-six r x m =
-      let (p, f, e) = ends-made t.ku t.kl t.kind t.age t.count r m.at x ends m.lands in
-      let (a, b, h) = middle-fits t.ku t.kl ok.upper ok.lower (at_of t.age 6 r) (rw six at f) in
+      let (p, f, e) = ends-made t.streets.upper t.streets.lower t.step.kind t.step.age t.step.count r m.at x ends m.lands in
+      let (a, b, h) = middle-fits t.streets.upper t.streets.lower t.streets.upper_few t.streets.lower_few (at_of t.step.age 6 r) (rw six at f) in
       (a, b, h, rw six at e)
 
   -- the youngest ends
   module _ (q x : ℕ) (h₂ : 2 ≤ q) (h₄ : q < 4) (hx : x < 120) where
-    first-leads : t.age ≡ 0 → 6 ≤ t.ku + t.kl → Leads t (120 * q + x) x
+    first-leads : t.step.age ≡ 0 → 6 ≤ t.streets.upper + t.streets.lower → Leads t (120 * q + x) x
     first-leads e h =
         let d = at_first q x hx in
         six-leads (120 * q + x) x h (rw e (omega arith)) (rw e (omega arith)) (rw e (less-first q x hx))
 
-    pub leads-first : t.age ≡ 0 → (y : ℕ) → Leads t (120 * q + x) y → x ≡ y
+    pub leads-first : t.step.age ≡ 0 → (y : ℕ) → Leads t (120 * q + x) y → x ≡ y
     leads-first e y m =
         let (a, b, h, d) = leads-six (120 * q + x) y m in
         sym (less-first q x hx) ∙ rw e at d
 
     -- another ends
-    other-leads : (c : ℕ) → t.age ≡ suc c → 6 ≤ t.ku + t.kl → at_of c 5 x ≡ 2 → Leads t (120 * q + x) (48 + less_of c 5 x)
+    other-leads : (c : ℕ) → t.step.age ≡ suc c → 6 ≤ t.streets.upper + t.streets.lower → at_of c 5 x ≡ 2 → Leads t (120 * q + x) (48 + less_of c 5 x)
     other-leads c e h p =
         let u : at_of (suc c) 6 (120 * q + x) ≡ under q 2 = at_other q x hx c ∙ ap (under q) p in
         let s : spared q (at_of c 5 x) ≡ 2 = ap (spared q) p ∙ third-spared q h₂ h₄ in
         let v = third-under q h₂ h₄ in
         six-leads (120 * q + x) (48 + less_of c 5 x) h (rw e (omega arith)) (rw e (omega arith)) (rw e (less_other q x hx c ∙ omega arith))
 
-    pub leads-other : (c : ℕ) → t.age ≡ suc c → (y : ℕ) → Leads t (120 * q + x) y → (at_of c 5 x ≡ 2) × (48 + less_of c 5 x ≡ y)
+    pub leads-other : (c : ℕ) → t.step.age ≡ suc c → (y : ℕ) → Leads t (120 * q + x) y → (at_of c 5 x ≡ 2) × (48 + less_of c 5 x ≡ y)
     leads-other c e y m =
         let (a, b, h, d) = leads-six (120 * q + x) y m in
         let u = at_other q x hx c in
@@ -201,7 +202,7 @@ module _ (s : List ℕ) (g : ℕ) where
             or-second (source s g (240 + x)) (source s g (360 + x)) (rw v at e)
 
 -- a rank before the node, as the youngest's place and the rank of the others
-module _ (t : Stop) (six : t.count ≡ 6) (s : List ℕ) (g : ℕ) (from : Sources t s g) (r : ℕ) (e : source s g r ≡ true) where
+module _ (t : Stop) (six : t.step.count ≡ 6) (s : List ℕ) (g : ℕ) (from : Sources t s g) (r : ℕ) (e : source s g r ≡ true) where
   pub source-inner : (24 ≤ r % 120) × (r % 120 < 96)
   source-inner = (from r e).inner (omega arith)
 
@@ -238,21 +239,21 @@ unfolding fact
 less-four c x h l = less-lt c 5 x h l
 
 -- forward: no place is legal, the youngest ends, another ends
-module _ (t : Stop) (ok : Sound t) (ends : t.kind ≡ 2) (six : t.count ≡ 6) (s : List ℕ) (g : ℕ) where
-  pub none_left : (f : Five) → t.ku + t.kl < 6 → Third f 0 → SixLeft t s g f
+module _ (t : Stop) (ok : Sound t) (ends : t.step.kind ≡ E) (six : t.step.count ≡ 6) (s : List ℕ) (g : ℕ) where
+  pub none_left : (f : Five) → t.streets.upper + t.streets.lower < 6 → Third f 0 → SixLeft t s g f
   none_left f h a =
       record {
         sound = λ x l e. absurd (no-orders f x a e);
         full = λ x p. let (i, j, k, d) = leads-six t ok ends six p.rank x p.leads in absurd (omega arith);
       }
 
-  module _ (from : Sources t s g) (room : 6 ≤ t.ku + t.kl) (f : Five)
+  module _ (from : Sources t s g) (room : 6 ≤ t.streets.upper + t.streets.lower) (f : Five)
       (words : (j : ℕ) → 1 ≤ j → j < 4 → nth f j ≡ bit_or (word_before s g (5 + j)) (word_before s g (10 + j))) where
     reached : (q x y : ℕ) → 2 ≤ q → q < 4 → x < 120 → source s g (120 * q + x) ≡ true → Leads t (120 * q + x) y → Reached t s g y
     unfolding fact
     reached q x y a b h e m = record { rank = 120 * q + x; below = rw six (omega arith); from = e; leads = m }
 
-    pub first-left : t.age ≡ 0 → SixLeft t s g f
+    pub first-left : t.step.age ≡ 0 → SixLeft t s g f
     first-left z = record { sound = sound; full = full }
       where
         sound : (x : ℕ) → x < 120 → within f x ≡ true → Reached t s g x
@@ -270,12 +271,12 @@ module _ (t : Stop) (ok : Sound t) (ends : t.kind ≡ 2) (six : t.count ≡ 6) (
             let e : r % 120 ≡ x = leads-first t ok ends six (r / 120) (r % 120) a b h z x m in
             (rw e at h, rw e at (source-within s g f words (r / 120) (r % 120) a b lo hi d))
 
-    pub other-left : (c n : ℕ) (k : Five) → t.age ≡ suc c → Gone 5 c 4 (within f) n → Third k n → SixLeft t s g k
+    pub other-left : (c n : ℕ) (k : Five) → t.step.age ≡ suc c → Gone 5 c 4 (within f) n → Third k n → SixLeft t s g k
     unfolding fact
     other-left c n k z o alone = record { sound = sound; full = full }
       where
         small : c < 5
-        small = omega (arith, ok.touched (omega arith) (omega arith))
+        small = omega (arith, touched-at t ok E ends refl)
 
         sound : (x : ℕ) → x < 120 → within k x ≡ true → Reached t s g x
         sound x h e =
@@ -300,8 +301,8 @@ module _ (t : Stop) (ok : Sound t) (ends : t.kind ≡ 2) (six : t.count ≡ 6) (
             (omega arith, rw e at (third-full k n alone (less_of c 5 (r % 120)) l y))
 
 -- back: the same three
-module _ (t : Stop) (ok : Sound t) (ends : t.kind ≡ 2) (six : t.count ≡ 6) (s : List ℕ) (g : ℕ) where
-  pub none-back : (f : Five) → t.ku + t.kl < 6 → Third f 0 → SixBack t s g f
+module _ (t : Stop) (ok : Sound t) (ends : t.step.kind ≡ E) (six : t.step.count ≡ 6) (s : List ℕ) (g : ℕ) where
+  pub none-back : (f : Five) → t.streets.upper + t.streets.lower < 6 → Third f 0 → SixBack t s g f
   none-back f h a =
       record {
         sound = λ q x i j k l e. absurd (no-orders f x a e);
@@ -315,8 +316,8 @@ module _ (t : Stop) (ok : Sound t) (ends : t.kind ≡ 2) (six : t.count ≡ 6) (
       let d : x % 24 ≡ y = omega arith in
       marked-bit s (suc g) x (held-few x l) ∙ ap₂ (λ (j i : ℕ). bit (word_at s (suc g) j) i) v d
 
-  module _ (room : 6 ≤ t.ku + t.kl) (f : Five) where
-    pub first_back : t.age ≡ 0 → ((j : ℕ) → 1 ≤ j → j < 4 → nth f j ≡ word_at s (suc g) j) → SixBack t s g f
+  module _ (room : 6 ≤ t.streets.upper + t.streets.lower) (f : Five) where
+    pub first_back : t.step.age ≡ 0 → ((j : ℕ) → 1 ≤ j → j < 4 → nth f j ≡ word_at s (suc g) j) → SixBack t s g f
     first_back z words = record { sound = sound; full = full }
       where
         same : (x : ℕ) → 24 ≤ x → x < 96 → within f x ≡ marked s (suc g) x
@@ -333,12 +334,12 @@ module _ (t : Stop) (ok : Sound t) (ends : t.kind ≡ 2) (six : t.count ≡ 6) (
             let e : x ≡ o.next = leads-first t ok ends six q x a b (omega arith) z o.next o.leads in
             same x l h ∙ rw e o.kept
 
-    pub other-back : (c n : ℕ) → t.age ≡ suc c → n ≡ word_at s (suc g) 2 → ((x : ℕ) → 24 ≤ x → x < 96 → within f x ≡ comes 5 c 4 n x) →
+    pub other-back : (c n : ℕ) → t.step.age ≡ suc c → n ≡ word_at s (suc g) 2 → ((x : ℕ) → 24 ≤ x → x < 96 → within f x ≡ comes 5 c 4 n x) →
         SixBack t s g f
     other-back c n z w same = record { sound = sound; full = full }
       where
         small : c < 5
-        small = omega (arith, ok.touched (omega arith) (omega arith))
+        small = omega (arith, touched-at t ok E ends refl)
 
         mark : (x : ℕ) → x < 120 → marked s (suc g) (48 + less_of c 5 x) ≡ bit n (less_of c 5 x)
         mark x h = rw w (mark-few 2 (less_of c 5 x) (48 + less_of c 5 x) (omega arith) (less-four c x small h) (omega arith))

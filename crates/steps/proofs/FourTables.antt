@@ -13,7 +13,7 @@ use Rattle.rules.specs.Basic.{every}
 use Rattle.rules.specs.Street.{fits}
 use Rattle.rules.proofs.PinsTest.{every-at}
 use Rattle.steps.specs.Sets.{bit}
-use Rattle.steps.specs.Four.{place_of, left_of, gather, piece_left, Tables}
+use Rattle.steps.specs.Four.{place_of, left_of, gather, piece_left, TableWords}
 use Rattle.steps.proofs.Hops.{to-true}
 
 unfoldable pub rest_at : (t : List ℕ) (e p x : ℕ) → Bool
@@ -46,7 +46,7 @@ legals t = every (λ ku. every (λ kl. every (legal_at t ku kl) 8) 4) 4
 unfoldable pub spots : List ℕ → Bool
 spots t = every (λ e. every (spot_at t e) 24) 4
 
-pub tables-right : (t : List ℕ) → length t ≡ 800 → T (rests t) → T (backs t) → T (stands t) → T (legals t) → T (spots t) → Tables t
+pub tables-right : (t : List ℕ) → length t ≡ 800 → T (rests t) → T (backs t) → T (stands t) → T (legals t) → T (spots t) → TableWords t
 unfolding rests backs stands legals spots rest_at back_at stand_at legal_at spot_at
 tables-right t n r b s l o =
     record {

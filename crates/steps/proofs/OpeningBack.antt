@@ -6,7 +6,11 @@ use mathlib.Core.Logic.{◌⊎◌, inl, inr, ⊎_elim}
 use Prim.Native.Nat.{ℕ, zero, suc, ◌+◌, ◌-◌, ◌*◌, ◌/◌, ◌%◌, ◌≤◌, ◌<◌}
 use native.Mathlib.Numerals.{add-one}
 use native.Mathlib.Omega.{arith}
-use lib.ListN.{length}
+use lib.ListN.{length, get_or}
+use borrow.Author.Rules.{rules}
+use borrow.Rule.Slice.PartMut.{put_mid}
+use Rattle.std.proofs.Common.{replicate}
+use Rattle.std.proofs.lemmas.List.{places}
 use lib.Bits.{bit_and, bit_or}
 use lib.Dec.{eqb, ltb}
 use borrow.Author.Tests.{ltb-true, ltb-false, eqb-true, eqb-false}
@@ -14,7 +18,7 @@ use Rattle.rules.specs.Basic.{pick}
 use Rattle.rules.specs.Street.{fits}
 use Rattle.rules.proofs.Fits.{Fits}
 use Rattle.steps.specs.Ranks.{fact, RankOf}
-use Rattle.steps.specs.Sets.{ranks, slots, slot, word_at, bit, marked, Written, Loses}
+use Rattle.steps.specs.Sets.{ranks, stretch, slots, slot, four_at, word_at, bit, marked, Written, Loses}
 use Rattle.steps.specs.Masks.{between}
 use Rattle.steps.specs.Opening.{Places, Joined, Entered}
 use Rattle.steps.proofs.Ranks.{rank-digit}
@@ -342,27 +346,58 @@ module _ (s : List ℕ) (g : ℕ) where
           outside o true m = absurd (not-both e (between_in 1 4 j o (omega (arith, ltb-true j k m, f.most))))
           outside o false m = ltb-false j k m
 
--- no rank is left: the first k words are 0
-pub record Cleared (s : List ℕ) (g k : ℕ) (t : List ℕ) : Type 0 where
+-- no rank is left: the words are 0
+pub record Cleared (s : List ℕ) (g : ℕ) (t : List ℕ) : Type 0 where
   pub long : length t ≡ length s
   pub left : (h j : ℕ) → j < slots → (h ≡ g → ⊥) → word_at t h j ≡ word_at s h j
-  pub done : (j : ℕ) → j < k → word_at t g j ≡ 0
+  pub done : (j : ℕ) → j < slots → word_at t g j ≡ 0
 
-module _ (s : List ℕ) (g : ℕ) where
-  pub cleared-start : Cleared s g 0 s
-  cleared-start = record { long = refl; left = λ h j l f. refl; done = λ j l. absurd (omega arith) }
+-- zeros written over the words of a gap
+module _ (s : List ℕ) (g n m : ℕ) (room : stretch * suc g ≤ length s) (en : n ≡ 60) (em : m ≡ 60) where
+  abbrev zeroed : List ℕ
+  zeroed = put_mid (90 * g) n s (replicate m 0)
 
-  pub cleared-step : (k : ℕ) (t u : List ℕ) → k < slots → Cleared s g k t → Written t g k 0 u → Cleared s g (k + 1) u
-  cleared-step k t u h f p =
+  zero-in : (i : ℕ) → 90 * g ≤ i → i < 90 * g + 60 → get_or zeroed i 0 ≡ 0
+  zero-in i l h = search (rules, places)
+
+  zero-out : (i : ℕ) → (i < 90 * g) ⊎ (90 * g + 60 ≤ i) → get_or zeroed i 0 ≡ get_or s i 0
+  zero-out i (inl l) = search (rules, places)
+  zero-out i (inr l) = search (rules, places)
+
+  four-out : (i : ℕ) → (i + 3 < 90 * g) ⊎ (90 * g + 60 ≤ i) → four_at zeroed i ≡ four_at s i
+  unfolding four_at
+  four-out i (inl l) =
+      rw (zero-out i (inl (omega arith)), zero-out (i + 1) (inl (omega arith)), zero-out (i + 2) (inl (omega arith)), zero-out (i + 3) (inl l))
+  four-out i (inr l) =
+      rw (zero-out i (inr l), zero-out (i + 1) (inr (omega arith)), zero-out (i + 2) (inr (omega arith)), zero-out (i + 3) (inr (omega arith)))
+
+  four-in : (i : ℕ) → 90 * g ≤ i → i + 3 < 90 * g + 60 → four_at zeroed i ≡ 0
+  unfolding four_at
+  four-in i l h =
+      rw (zero-in i l (omega arith), zero-in (i + 1) (omega arith) (omega arith), zero-in (i + 2) (omega arith) (omega arith), zero-in (i + 3) (omega arith) h)
+
+  apart : (h j : ℕ) → j < slots → (h ≡ g → ⊥) → (stretch * h + 4 * j + 3 < 90 * g) ⊎ (90 * g + 60 ≤ stretch * h + 4 * j)
+  apart h j l f = go (ltb h g) refl
+    where
+      go : (t : Bool) → ltb h g ≡ t → (stretch * h + 4 * j + 3 < 90 * g) ⊎ (90 * g + 60 ≤ stretch * h + 4 * j)
+      go true e = let q : h < g = ltb-true h g e in inl (omega arith)
+      go false e =
+          let q : g ≤ h = ltb-false h g e in
+          let d : h ≡ g → ⊥ = f in
+          inr (omega arith)
+
+  pub zeroed-cleared : Cleared s g zeroed
+  unfolding word_at
+  zeroed-cleared =
       record {
-        long = p.long ∙ f.long;
-        left = λ h j l n. p.others h j l (λ e d. n e) ∙ f.left h j l n;
-        done = λ j l. last_or (word_at u g j ≡ 0) j k l (λ e. rw e p.own)
-            (λ m. p.others g j (omega arith) (λ q d. omega arith) ∙ f.done j m);
+        long = search (rules, places);
+        left = λ h j l f. four-out (stretch * h + 4 * j) (apart h j l f);
+        done = λ j l. four-in (stretch * g + 4 * j) (omega arith) (omega arith);
       }
 
-  pub cleared-loses : (k : ℕ) (t : List ℕ) → slots ≤ k → Cleared s g k t → Loses s g (λ x. ⊥) t
-  cleared-loses k t h f =
+module _ (s : List ℕ) (g : ℕ) where
+  pub cleared-loses : (t : List ℕ) → Cleared s g t → Loses s g (λ x. ⊥) t
+  cleared-loses t f =
       record {
         long = f.long;
         others = λ h x l n. same-marks s t h x (λ j m. f.left h j m n);
@@ -374,4 +409,4 @@ module _ (s : List ℕ) (g : ℕ) where
       none : (x : ℕ) → marked t g x ≡ true → ⊥
       none x e =
           let m = marked-held t g x e in
-          not-both (marked-bit t g x m ∙ ap (λ (v : ℕ). bit v (x % 24)) (f.done (slot x) (omega (arith, slot-below x m))) ∙ bit-zero (x % 24)) e
+          not-both (marked-bit t g x m ∙ ap (λ (v : ℕ). bit v (x % 24)) (f.done (slot x) (slot-below x m)) ∙ bit-zero (x % 24)) e

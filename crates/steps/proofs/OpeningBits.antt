@@ -3,16 +3,18 @@ use mathlib.Core.Path.{◌≡◌, refl, sym, ap, ap₂, ◌∙◌}
 use mathlib.Core.Bool.{Bool, true, false, ◌&&◌, ◌||◌}
 use Prim.Native.Nat.{ℕ, zero, suc, ◌+◌, ◌*◌, ◌/◌, ◌%◌, ◌^◌, ◌≤◌, ◌<◌}
 use native.Mathlib.Omega.{arith}
+use mathlib.Core.List.{List, []}
 use lib.ListN.{get_or}
 use lib.Bits.{bit_or}
-use lib.Dec.{ltb}
+use lib.Dec.{T, ltb}
 use borrow.Author.Tests.{ltb-true}
-use Rattle.rules.specs.Basic.{every, pick}
-use Rattle.rules.specs.Street.{fits, limits, met}
+use Rattle.rules.specs.Basic.{every}
+use Rattle.rules.specs.Street.{fits}
 use Rattle.rules.proofs.PinsTest.{every-at}
 use Rattle.steps.specs.Ranks.{fact}
 use Rattle.steps.specs.Sets.{bit}
-use Rattle.steps.specs.Opening.{wide, places_by, Places, Under, Copies, Joined}
+use Rattle.steps.specs.Opening.{wide, Places, Under, Copies, Joined}
+use Rattle.steps.proofs.Hops.{to-true}
 use Rattle.steps.proofs.Words.{bit-or, bit-shr, bit-shl, bit-shl-low, bit-mod}
 
 pub or_right : (a b : Bool) → b ≡ false → a || b ≡ a
@@ -79,7 +81,7 @@ laid w f r =
     ap₂ ◌||◌ (halved-at w f r) (halved-at w f (2 * f + r) ∙ ap (λ (i : ℕ). bit w (2 * f + r) || bit w i) e)
 
 -- the table of places has the bits that it must
-same : Bool → Bool → Bool
+unfoldable pub same : Bool → Bool → Bool
 same true t = t
 same false true = false
 same false false = true
@@ -91,32 +93,31 @@ same-equal true false e = sym e
 same-equal false true e = e
 same-equal false false e = refl
 
-placed : (key m x : ℕ) → Bool
-placed key m x = same (bit m x) (fits (key / 4 % 4) (key % 4) (suc (x / fact (key / 16))) (suc (key / 16)))
-
-right : ℕ → Bool
-right key = ltb (get_or places_by key 0) wide && every (placed key (get_or places_by key 0)) 24
-
-all_right : every right 64 ≡ true
-unfolding every right placed same bit fits limits met pick fact
-all_right = refl
-
 pub both : (s t : Bool) → s && t ≡ true → (s ≡ true) × (t ≡ true)
 both true t e = (refl, e)
 both false t e = let z : ◌≡◌ {A = ℕ} 0 1 = cc in absurd (omega arith)
 
-pub places-right : (ku kl b : ℕ) → ku ≤ 3 → kl ≤ 3 → b ≤ 3 → (m : ℕ) → m ≡ get_or places_by (16 * b + 4 * ku + kl) 0 → Places ku kl b m
-unfolding right placed
-places-right ku kl b hu hl hb m d =
-    let key : ℕ = 16 * b + 4 * ku + kl in
-    let h : key < 64 = omega arith in
-    let (s, t) = both (ltb (get_or places_by key 0) wide) (every (placed key (get_or places_by key 0)) 24) (every-at right 64 all_right key h) in
-    let eu : key / 4 % 4 ≡ ku = omega arith in
-    let el : key % 4 ≡ kl = omega arith in
-    let eb : key / 16 ≡ b = omega arith in
-    rw d (record {
-      small = ltb-true (get_or places_by key 0) wide s;
-      told = λ x l. rw (eu, el, eb) at
-          (same-equal (bit (get_or places_by key 0) x) (fits (key / 4 % 4) (key % 4) (suc (x / fact (key / 16))) (suc (key / 16)))
-          (every-at (placed key (get_or places_by key 0)) 24 t x l));
-    })
+-- the word of b others between streets of u and l tracks
+abbrev entry : (t : List (List (List ℕ))) (b u l : ℕ) → ℕ
+entry t b u l = get_or (get_or (get_or t b []) u []) l 0
+
+unfoldable pub placed : (m u l b x : ℕ) → Bool
+placed m u l b x = same (bit m x) (fits u l (suc (x / fact b)) (suc b))
+
+unfoldable pub placed_at : (t : List (List (List ℕ))) (b u l : ℕ) → Bool
+placed_at t b u l = ltb (entry t b u l) wide && every (placed (entry t b u l) u l b) 24
+
+unfoldable pub all_placed : List (List (List ℕ)) → Bool
+all_placed t = every (λ b. every (λ u. every (placed_at t b u) 4) 4) 4
+
+pub places-right : (t : List (List (List ℕ))) (b u l : ℕ) → T (all_placed t) → b < 4 → u < 4 → l < 4 →
+    Places u l b (get_or (get_or (get_or t b []) u []) l 0)
+unfolding all_placed placed_at placed
+places-right t b u l h hb hu hl =
+    let e = every-at (placed_at t b u) 4 (every-at (λ u. every (placed_at t b u) 4) 4
+    (every-at (λ b. every (λ u. every (placed_at t b u) 4) 4) 4 (to-true (all_placed t) h) b hb) u hu) l hl in
+    let (s, w) = both (ltb (entry t b u l) wide) (every (placed (entry t b u l) u l b) 24) e in
+    record {
+      small = ltb-true (entry t b u l) wide s;
+      told = λ x m. same-equal (bit (entry t b u l) x) (fits u l (suc (x / fact b)) (suc b)) (every-at (placed (entry t b u l) u l b) 24 w x m);
+    }

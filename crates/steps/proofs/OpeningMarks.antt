@@ -13,6 +13,7 @@ use Rattle.rules.specs.Street.{fits}
 use Rattle.rules.proofs.Fits.{Fits}
 use Rattle.steps.specs.Ranks.{fact}
 use Rattle.steps.specs.Sets.{ranks, slots, held, slot, word_at, bit, marked, source, Written, Empty, Some, Bare}
+use Rattle.steps.specs.Four.{word_before}
 use Rattle.steps.specs.Opening.{wide, Before, Places, Under, Copies, Opened}
 use Rattle.steps.proofs.Ranks.{fact-pos}
 use Rattle.steps.proofs.Slots.{held-few, held-middle, held_below, slot-few, slot-middle, slot_cases, slot-below}
@@ -22,7 +23,7 @@ use Rattle.steps.proofs.Words.{bit-and, bit-mod, bit-zero, bit-power, bit-power-
 
 -- a word of the gap before
 module _ (s : List ℕ) (g k : ℕ) where
-  pub before-word : (h w : ℕ) → g ≡ suc h → w ≡ word_at s h k → Before s g k (w % wide)
+  before-word : (h w : ℕ) → g ≡ suc h → w ≡ word_at s h k → Before s g k (w % wide)
   before-word h w e d =
       record {
         small = omega arith;
@@ -31,7 +32,7 @@ module _ (s : List ℕ) (g k : ℕ) where
       }
 
   -- before node 0 rank 0 alone
-  pub before-first : g ≡ 0 → k ≡ 0 → Before s g k 1
+  before-first : g ≡ 0 → k ≡ 0 → Before s g k 1
   before-first e d =
       record { small = omega arith; told = λ r m l. go r (slot_cases r m) l (eqb r 0) refl ∙ sym (source-none s g r e) }
     where
@@ -43,12 +44,19 @@ module _ (s : List ℕ) (g k : ℕ) where
           ap (bit 1) z ∙ bit-power 0 ∙ sym f
       go r (inl c) l false f = bit-power-other 0 (r % 24) (λ z. eqb-false r 0 f (omega arith)) ∙ sym f
 
-  pub before-none : g ≡ 0 → (k ≡ 0 → ⊥) → Before s g k 0
+  before-none : g ≡ 0 → (k ≡ 0 → ⊥) → Before s g k 0
   before-none e n =
       record {
         small = omega arith;
         told = λ r m l. bit-zero (r % 24) ∙ sym (ne_eqb r 0 (λ z. n (sym l ∙ ap slot z ∙ slot-few 0 (omega arith)))) ∙ sym (source-none s g r e);
       }
+
+-- the low 24 bits of the word before a node are the ranks before it that the slot has bits for
+pub before-ranks : (s : List ℕ) (g k w : ℕ) → w ≡ word_before s g k → Before s g k (w % wide)
+unfolding word_before
+before-ranks s zero zero w e = rw e (before-first s 0 0 refl refl)
+before-ranks s zero (suc k) w e = rw e (before-none s 0 (suc k) refl (λ d. omega arith))
+before-ranks s (suc h) k w e = before-word s (suc h) k h w refl e
 
 and-false : (t : Bool) → t && false ≡ false
 and-false true = refl

@@ -14,7 +14,7 @@ use Rattle.rules.specs.Street.{fits}
 use Rattle.steps.specs.Ranks.{fact, RankOf}
 use Rattle.steps.specs.Sets.{slots, held, slot, word_at, bit, marked, source, Written, Empty, Some, Bare}
 use Rattle.steps.specs.Masks.{between}
-use Rattle.steps.specs.Opening.{wide, Fifth, Before, Opened}
+use Rattle.steps.specs.Opening.{wide, Before, Opened}
 use Rattle.steps.proofs.Slots.{held-few, slot-few, slot_cases, slot-below}
 use Rattle.steps.proofs.Bits.{not-both, marked-bit, last_or}
 use Rattle.steps.proofs.Hops.{fitting, unfit}
@@ -40,7 +40,7 @@ picked-small true w x e h = omega arith
 picked-small false w x e h = omega arith
 
 -- where a fifth net may stand
-module _ (ku kl : ℕ) (f : Fifth ku kl) where
+module _ (ku kl : ℕ) (hu : ku ≤ 3) (hl : kl ≤ 3) (sum : 5 ≤ ku + kl) where
   fifth-one : eqb kl 3 ≡ fits ku kl 2 5
   fifth-one = go (eqb kl 3) refl
     where

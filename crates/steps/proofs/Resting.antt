@@ -7,10 +7,13 @@ use native.Mathlib.Omega.{arith}
 use lib.Bits.{bit_or}
 use lib.Dec.{leb, eqb}
 use borrow.Author.Tests.{eqb-true, leb-true, eq-eqb}
+use Rattle.std.specs.Prelude.{IsTrue}
+use Rattle.steps.specs.Plan.{stays}
+use Rattle.rules.specs.declared.Kind.TheVariants.{N}
 use Rattle.rules.specs.Basic.{every}
 use Rattle.rules.proofs.Choices.{lowest-fits}
 use Rattle.rules.proofs.PinsTest.{every-at}
-use Rattle.steps.specs.declared.rank.Stop.{Stop}
+use Rattle.steps.specs.declared.plan.Stop.{Stop}
 use Rattle.steps.specs.Sets.{ranks, slots, held, slot, word_at, bit, marked, source, Written, Empty, Exactly, Loses}
 use Rattle.steps.specs.Stops.{Sound}
 use Rattle.steps.specs.Leading.{Leads, Onward, Reached}
@@ -77,26 +80,26 @@ module _ (b k : ℕ) where
       sym (slots-few b k h)
 
 -- a blank
-module _ (t : Stop) (s : List ℕ) (g : ℕ) (rests : 2 < t.kind) where
+module _ (t : Stop) (s : List ℕ) (g : ℕ) (rests : t.step.kind ≡ N) where
   -- it is passed where the streets have tracks for the open nets
-  rest-keeps : t.count ≤ t.ku + t.kl → Keeps t (λ r. true)
+  rest-keeps : t.step.count ≤ t.streets.upper + t.streets.lower → Keeps t (λ r. true)
   rest-keeps h =
       record {
         leads = λ r o e. record {
-          at = t.count - t.kl;
-          lands = hop-rests t.ku t.kl t.kind t.age t.count r (t.count - t.kl) rests (lowest-fits t.ku t.kl t.count h);
+          at = t.step.count - t.streets.lower;
+          lands = hop-rests t.streets.upper t.streets.lower t.step.kind t.step.age t.step.count r (t.step.count - t.streets.lower) rests (lowest-fits t.streets.upper t.streets.lower t.step.count h);
         };
-        only = λ r x o l. (hop-still t.ku t.kl t.kind t.age t.count r l.at x (omega arith) (λ e. omega arith) l.lands, refl);
+        only = λ r x o l. (hop-still t.streets.upper t.streets.lower t.step.kind t.step.age t.step.count r l.at x (rw rests refl) l.lands, refl);
       }
 
-  pub rest-none : t.ku + t.kl < t.count → Empty s g → Exactly s g (Reached t s g) s
+  pub rest-none : t.streets.upper + t.streets.lower < t.step.count → Empty s g → Exactly s g (Reached t s g) s
   rest-none h z =
       unreached t s g z
-      (λ x r. omega (arith, h, (hop-rested t.ku t.kl t.kind t.age t.count r.rank r.leads.at x rests r.leads.lands).sum))
+      (λ x r. omega (arith, h, (hop-rested t.streets.upper t.streets.lower t.step.kind t.step.age t.step.count r.rank r.leads.at x rests r.leads.lands).sum))
 
   -- at most four nets, five, six
-  module _ (u : List ℕ) (sound : Sound t) (within : t.count ≤ t.ku + t.kl) (z : Empty s g) (o : Sources t s g) where
-    copied_on : (K : ℕ → Bool) → ((k : ℕ) → k < slots → slots_of t.count k ≡ true → K k ≡ true) → Redone s g K (source s g) u →
+  module _ (u : List ℕ) (sound : Sound t) (within : t.step.count ≤ t.streets.upper + t.streets.lower) (z : Empty s g) (o : Sources t s g) where
+    copied_on : (K : ℕ → Bool) → ((k : ℕ) → k < slots → slots_of t.step.count k ≡ true → K k ≡ true) → Redone s g K (source s g) u →
         Exactly s g (Reached t s g) u
     copied_on K f = kept-exactly t s g (λ r. true) K (source s g) u sound.few (rest-keeps within) (λ x. passed (source s g x)) f z o
       where
@@ -104,18 +107,18 @@ module _ (t : Stop) (s : List ℕ) (g : ℕ) (rests : 2 < t.kind) where
         passed true = refl
         passed false = refl
 
-    pub rest-few : t.count < 5 → Redone s g (between 0 1) (source s g) u → Exactly s g (Reached t s g) u
-    rest-few h = copied_on (between 0 1) (λ k l e. between-few t.count k h ∙ e)
+    pub rest-few : t.step.count < 5 → Redone s g (between 0 1) (source s g) u → Exactly s g (Reached t s g) u
+    rest-few h = copied_on (between 0 1) (λ k l e. between-few t.step.count k h ∙ e)
 
-    pub rest-five : t.count ≡ 5 → Redone s g (between 1 4) (source s g) u → Exactly s g (Reached t s g) u
-    rest-five h = copied_on (between 1 4) (λ k l e. sym (slots-five t.count k h) ∙ e)
+    pub rest-five : t.step.count ≡ 5 → Redone s g (between 1 4) (source s g) u → Exactly s g (Reached t s g) u
+    rest-five h = copied_on (between 1 4) (λ k l e. sym (slots-five t.step.count k h) ∙ e)
 
-    pub rest-six : t.count ≡ 6 → Redone s g (between 6 14) (source s g) u → Exactly s g (Reached t s g) u
+    pub rest-six : t.step.count ≡ 6 → Redone s g (between 6 14) (source s g) u → Exactly s g (Reached t s g) u
     rest-six h = copied_on (between 6 14) inside
       where
-        inside : (k : ℕ) → k < slots → slots_of t.count k ≡ true → between 6 14 k ≡ true
+        inside : (k : ℕ) → k < slots → slots_of t.step.count k ≡ true → between 6 14 k ≡ true
         inside k l e =
-            let (m, n) = both (leb 5 k) (between 1 4 ((k - 5) % 5)) (sym (slots-six t.count k h) ∙ e) in
+            let (m, n) = both (leb 5 k) (between 1 4 ((k - 5) % 5)) (sym (slots-six t.step.count k h) ∙ e) in
             let lo : 5 ≤ k = leb-true 5 k m in
             let (p, q) = between-out 1 4 ((k - 5) % 5) n in
             between_in 6 14 k (omega arith) (omega arith)
@@ -160,10 +163,10 @@ redone-join s g K L Q P u v same a b =
     done x h false q e = b.left x h q ∙ a.done x h (first_of (K (slot x)) e)
 
 -- where no net begins or ends the ranks that are marked after the node are those that lead on
-module _ (t : Stop) (s : List ℕ) (g : ℕ) (u : List ℕ) (sound : Sound t) (old : 0 < t.kind) (stays : t.kind ≡ 2 → ⊥) (o : Sources t s (suc g))
+module _ (t : Stop) (s : List ℕ) (g : ℕ) (u : List ℕ) (sound : Sound t) (still-open : IsTrue (stays t.step.kind)) (o : Sources t s (suc g))
     (reached : (x : ℕ) → marked s (suc g) x ≡ true → Reached t s (suc g) x) where
   still : (r x : ℕ) → Leads t r x → r ≡ x
-  still r x l = hop-still t.ku t.kl t.kind t.age t.count r l.at x old stays l.lands
+  still r x l = hop-still t.streets.upper t.streets.lower t.step.kind t.step.age t.step.count r l.at x still-open l.lands
 
   -- a mark after the node is one before it, and the node leads from it to itself
   after-before : (x : ℕ) → marked s (suc g) x ≡ true → (marked s g x ≡ true) × Leads t x x
@@ -173,24 +176,24 @@ module _ (t : Stop) (s : List ℕ) (g : ℕ) (u : List ℕ) (sound : Sound t) (o
       let q : marked s g r.rank ≡ true = sym (source-gap s (suc g) g r.rank refl) ∙ r.from in
       ((rw e at q), (rw e at r.leads))
 
-  pub copied-loses : Redone s g (slots_of t.count) (λ x. marked s (suc g) x) u → Loses s g (Onward t s (suc g)) u
+  pub copied-loses : Redone s g (slots_of t.step.count) (λ x. marked s (suc g) x) u → Loses s g (Onward t s (suc g)) u
   copied-loses a =
       record {
         long = a.long;
         others = λ y x l n. a.others y x n;
-        was = λ x l e. was x e (slots_of t.count (slot x)) refl;
-        sound = λ x l e. onward x l (kept x e (slots_of t.count (slot x)) refl);
+        was = λ x l e. was x e (slots_of t.step.count (slot x)) refl;
+        sound = λ x l e. onward x l (kept x e (slots_of t.step.count (slot x)) refl);
         full = λ x l e p. full x e p;
       }
     where
-      mine : (x : ℕ) → marked s g x ≡ true → slots_of t.count (slot x) ≡ true
-      mine x m = rank-slots t.count x sound.few (marked-held s g x m) (o x (source-gap s (suc g) g x refl ∙ m))
+      mine : (x : ℕ) → marked s g x ≡ true → slots_of t.step.count (slot x) ≡ true
+      mine x m = rank-slots t.step.count x sound.few (marked-held s g x m) (o x (source-gap s (suc g) g x refl ∙ m))
 
-      kept : (x : ℕ) → marked u g x ≡ true → (k : Bool) → slots_of t.count (slot x) ≡ k → marked s (suc g) x ≡ true
+      kept : (x : ℕ) → marked u g x ≡ true → (k : Bool) → slots_of t.step.count (slot x) ≡ k → marked s (suc g) x ≡ true
       kept x e true k = sym (a.done x (marked-held u g x e) k) ∙ e
       kept x e false k = absurd (not-both k (mine x (sym (a.left x (marked-held u g x e) k) ∙ e)))
 
-      was : (x : ℕ) → marked u g x ≡ true → (k : Bool) → slots_of t.count (slot x) ≡ k → marked s g x ≡ true
+      was : (x : ℕ) → marked u g x ≡ true → (k : Bool) → slots_of t.step.count (slot x) ≡ k → marked s g x ≡ true
       was x e k q = (after-before x (kept x e k q)).0
 
       onward : (x : ℕ) → x < ranks → marked s (suc g) x ≡ true → Onward t s (suc g) x
@@ -202,18 +205,18 @@ module _ (t : Stop) (s : List ℕ) (g : ℕ) (u : List ℕ) (sound : Sound t) (o
           let n : marked s (suc g) x ≡ true = rw e p.kept in
           a.done x (marked-held s g x m) (mine x m) ∙ n
 
-  pub copied-few : t.count < 5 → Redone s g (between 0 1) (λ x. marked s (suc g) x) u → Loses s g (Onward t s (suc g)) u
+  pub copied-few : t.step.count < 5 → Redone s g (between 0 1) (λ x. marked s (suc g) x) u → Loses s g (Onward t s (suc g)) u
   copied-few h r =
-      copied-loses (redone-map s g (λ x. marked s (suc g) x) (between 0 1) (slots_of t.count) u (λ k l. between-few t.count k h) r)
+      copied-loses (redone-map s g (λ x. marked s (suc g) x) (between 0 1) (slots_of t.step.count) u (λ k l. between-few t.step.count k h) r)
 
-  pub copied-five : t.count ≡ 5 → Redone s g (between 1 4) (λ x. marked s (suc g) x) u → Loses s g (Onward t s (suc g)) u
+  pub copied-five : t.step.count ≡ 5 → Redone s g (between 1 4) (λ x. marked s (suc g) x) u → Loses s g (Onward t s (suc g)) u
   copied-five h r =
-      copied-loses (redone-map s g (λ x. marked s (suc g) x) (between 1 4) (slots_of t.count) u (λ k l. sym (slots-five t.count k h)) r)
+      copied-loses (redone-map s g (λ x. marked s (suc g) x) (between 1 4) (slots_of t.step.count) u (λ k l. sym (slots-five t.step.count k h)) r)
 
-  pub copied-six : t.count ≡ 6 → (w : List ℕ) → Redone s g (between 6 9) (λ x. marked s (suc g) x) w →
+  pub copied-six : t.step.count ≡ 6 → (w : List ℕ) → Redone s g (between 6 9) (λ x. marked s (suc g) x) w →
       Redone w g (between 11 14) (λ x. marked w (suc g) x) u → Loses s g (Onward t s (suc g)) u
   unfolding copies
   copied-six h w a b =
-      copied-loses (redone-map s g (λ x. marked s (suc g) x) copies (slots_of t.count) u (λ k l. copies-six t.count k h l)
+      copied-loses (redone-map s g (λ x. marked s (suc g) x) copies (slots_of t.step.count) u (λ k l. copies-six t.step.count k h l)
       (redone-join s g (between 6 9) (between 11 14) (λ x. marked s (suc g) x) (λ x. marked w (suc g) x) w u
       (λ x. a.others (suc g) x (λ e. omega arith)) a b))

@@ -8,10 +8,11 @@ use native.Mathlib.Omega.{arith}
 use lib.Bits.{bit_and, bit_or, and_le_r, or_lt}
 use lib.Dec.{leb, ltb, eqb}
 use borrow.Author.Tests.{eqb-true, eqb-false, ltb-true, ltb-false, leb-true, leb-false, eq-eqb, ne_eqb, lt-ltb, le-ltb, le-leb}
+use Rattle.rules.specs.declared.Kind.TheVariants.{M}
 use Rattle.rules.specs.Basic.{pick, every}
 use Rattle.rules.proofs.Fits.{Fits}
 use Rattle.rules.proofs.PinsTest.{every-at}
-use Rattle.steps.specs.declared.rank.Stop.{Stop}
+use Rattle.steps.specs.declared.plan.Stop.{Stop}
 use Rattle.steps.specs.Ranks.{capacity, fact, RankOf, at_of}
 use Rattle.steps.specs.Sets.{ranks, slots, held, slot, word_at, bit, marked, source, Written, Empty, Some, Bare, Exactly}
 use Rattle.steps.specs.Stops.{Sound}
@@ -27,7 +28,7 @@ use Rattle.steps.proofs.EndingSets.{put-bare}
 use Rattle.steps.proofs.Masks.{between_in, between-under, between-over, alike, alike_same}
 use Rattle.steps.proofs.Masks.{legal-room, few-stands-at, five-stands-at, six-stands-at}
 use Rattle.steps.proofs.Bits.{not-both, marked-bit, marked-held, marked-same, source-gap, source-held}
-use Rattle.steps.proofs.Hops.{both, fits-fits, hop-met, hop-meets}
+use Rattle.steps.proofs.Hops.{touched-at, both, fits-fits, hop-met, hop-meets}
 
 module _ (s : List ℕ) (g : ℕ) (Q : ℕ → Bool) where
   pub redone-start : Redone s g (λ k. false) Q s
@@ -234,18 +235,18 @@ slot-six x h l = go (slot_cases x h)
     go (inr q) = q
 
 -- at most four nets: the one word
-pub few-done : (t : Stop) (l : ℕ) (s : List ℕ) (g h m w : ℕ) (v : List ℕ) → g ≡ suc h → t.count < 5 → Sources t s g →
-    Mask (fact t.count) (λ r. bit l (at_of t.age t.count r)) m → w ≡ bit_and (word_at s h 0) m → Written s g 0 w v →
-    Redone s g (λ k. false || eqb k 0) (λ x. marked s h x && bit l (at_of t.age t.count x)) v
+pub few-done : (t : Stop) (l : ℕ) (s : List ℕ) (g h m w : ℕ) (v : List ℕ) → g ≡ suc h → t.step.count < 5 → Sources t s g →
+    Mask (fact t.step.count) (λ r. bit l (at_of t.step.age t.step.count r)) m → w ≡ bit_and (word_at s h 0) m → Written s g 0 w v →
+    Redone s g (λ k. false || eqb k 0) (λ x. marked s h x && bit l (at_of t.step.age t.step.count x)) v
 few-done t l s g h m w v eg few o f ew b =
     sift-more s g h P (λ k. false) 0 m w s v (λ e. omega arith) ew b at-rank (redone-start s g (λ x. marked s h x && P x))
   where
     P : ℕ → Bool
-    P x = bit l (at_of t.age t.count x)
+    P x = bit l (at_of t.step.age t.step.count x)
 
     at-rank : (x : ℕ) → held x ≡ true → slot x ≡ 0 → marked s h x ≡ true → bit m (x % 24) ≡ P x
     at-rank x i e q =
-        few-stands-at (fact t.count) m x P (omega (arith, fact-most t.count 4 (omega arith), fact-of-four))
+        few-stands-at (fact t.step.count) m x P (omega (arith, fact-most t.step.count 4 (omega arith), fact-of-four))
         (o x (source-gap s g h x eg ∙ q)).below f
 
 pub few-bare : (s : List ℕ) (g m x w : ℕ) (v : List ℕ) → m < 16777216 → w ≡ bit_and x m → Written s g 0 w v → Empty s g →
@@ -357,12 +358,12 @@ unreached t s g z f =
 
 -- from the ranks of the nets that it finds open the stop leads to the same rank, where that passes the test P, and to no other
 pub record Keeps (t : Stop) (P : ℕ → Bool) : Type 0 where
-  pub leads : (r : ℕ) → RankOf t.count r → P r ≡ true → Leads t r r
-  pub only : (r x : ℕ) → RankOf t.count r → Leads t r x → (r ≡ x) × (P r ≡ true)
+  pub leads : (r : ℕ) → RankOf t.step.count r → P r ≡ true → Leads t r r
+  pub only : (r x : ℕ) → RankOf t.step.count r → Leads t r x → (r ≡ x) × (P r ≡ true)
 
 -- an empty gap whose words are made anew with the ranks before it that pass has then what the stop leads to
-pub kept-exactly : (t : Stop) (s : List ℕ) (g : ℕ) (P K Q : ℕ → Bool) (u : List ℕ) → t.count ≤ capacity → Keeps t P →
-    ((x : ℕ) → Q x ≡ source s g x && P x) → ((k : ℕ) → k < slots → slots_of t.count k ≡ true → K k ≡ true) → Empty s g → Sources t s g →
+pub kept-exactly : (t : Stop) (s : List ℕ) (g : ℕ) (P K Q : ℕ → Bool) (u : List ℕ) → t.step.count ≤ capacity → Keeps t P →
+    ((x : ℕ) → Q x ≡ source s g x && P x) → ((k : ℕ) → k < slots → slots_of t.step.count k ≡ true → K k ≡ true) → Empty s g → Sources t s g →
     Redone s g K Q u → Exactly s g (Reached t s g) u
 kept-exactly t s g P K Q u few keeps same f z o a =
     record {
@@ -383,29 +384,29 @@ kept-exactly t s g P K Q u few keeps same f z o a =
         let y : ℕ = r.rank in
         let l : held y ≡ true = source-held s g y r.from in
         let (e, i) = keeps.only y x (o y r.from) r.leads in
-        let c : K (slot y) ≡ true = f (slot y) (slot-below y l) (rank-slots t.count y few l (o y r.from)) in
+        let c : K (slot y) ≡ true = f (slot y) (slot-below y l) (rank-slots t.step.count y few l (o y r.from)) in
         rw (← e) (a.done y l c ∙ same y ∙ ap₂ ◌&&◌ r.from i)
 
 -- a node that touches a net
-module _ (t : Stop) (s : List ℕ) (g h : ℕ) (eg : g ≡ suc h) (sound : Sound t) (touches : t.kind ≡ 1) where
+module _ (t : Stop) (s : List ℕ) (g h : ℕ) (eg : g ≡ suc h) (sound : Sound t) (touches : t.step.kind ≡ M) where
   room-leads : (r : ℕ) → roomy t r ≡ true → Leads t r r
   unfolding room_at
-  room-leads r e = record { at = at_of t.age t.count r; lands = hop-meets t.ku t.kl t.kind t.age t.count r (at_of t.age t.count r) touches refl e }
+  room-leads r e = record { at = at_of t.step.age t.step.count r; lands = hop-meets t.streets.upper t.streets.lower t.step.kind t.step.age t.step.count r (at_of t.step.age t.step.count r) touches refl e }
 
   leads-room : (r x : ℕ) → Leads t r x → (r ≡ x) × (roomy t r ≡ true)
   unfolding room_at
-  leads-room r x l = hop-met t.ku t.kl t.kind t.age t.count r l.at x touches l.lands
+  leads-room r x l = hop-met t.streets.upper t.streets.lower t.step.kind t.step.age t.step.count r l.at x touches l.lands
 
-  room-sum : (r : ℕ) → t.ku + t.kl < t.count → roomy t r ≡ true → ⊥
+  room-sum : (r : ℕ) → t.streets.upper + t.streets.lower < t.step.count → roomy t r ≡ true → ⊥
   unfolding room_at
   room-sum r c e =
-      let f : Fits t.ku t.kl (suc (at_of t.age t.count r)) t.count =
-      fits-fits t.ku t.kl (suc (at_of t.age t.count r)) t.count e in
+      let f : Fits t.streets.upper t.streets.lower (suc (at_of t.step.age t.step.count r)) t.step.count =
+      fits-fits t.streets.upper t.streets.lower (suc (at_of t.step.age t.step.count r)) t.step.count e in
       omega arith
 
   -- P tells, of the ranks before the node, where the net has room
-  redone-exactly : (P K : ℕ → Bool) (u : List ℕ) → ((x : ℕ) → RankOf t.count x → P x ≡ roomy t x) →
-      ((k : ℕ) → k < slots → K k ≡ slots_of t.count k) → Empty s g → Sources t s g → Redone s g K (λ x. marked s h x && P x) u →
+  redone-exactly : (P K : ℕ → Bool) (u : List ℕ) → ((x : ℕ) → RankOf t.step.count x → P x ≡ roomy t x) →
+      ((k : ℕ) → k < slots → K k ≡ slots_of t.step.count k) → Empty s g → Sources t s g → Redone s g K (λ x. marked s h x && P x) u →
       Exactly s g (Reached t s g) u
   redone-exactly P K u p f =
       kept-exactly t s g P K (λ x. marked s h x && P x) u sound.few keeps
@@ -420,34 +421,34 @@ module _ (t : Stop) (s : List ℕ) (g h : ℕ) (eg : g ≡ suc h) (sound : Sound
 
   -- at most four nets, five, six
   module _ (z : Empty s g) (o : Sources t s g) where
-    among : t.age < t.count
-    among = sound.touched (omega arith) (omega arith)
+    among : t.step.age < t.step.count
+    among = touched-at t sound M touches refl
 
-    pub few-exactly : (l : ℕ) (u : List ℕ) → t.count < 5 → Legal t.ku t.kl t.count l →
-        Redone s g (λ k. false || eqb k 0) (λ x. marked s h x && bit l (at_of t.age t.count x)) u → Exactly s g (Reached t s g) u
+    pub few-exactly : (l : ℕ) (u : List ℕ) → t.step.count < 5 → Legal t.streets.upper t.streets.lower t.step.count l →
+        Redone s g (λ k. false || eqb k 0) (λ x. marked s h x && bit l (at_of t.step.age t.step.count x)) u → Exactly s g (Reached t s g) u
     few-exactly l u few f a =
-        redone-exactly (λ x. bit l (at_of t.age t.count x)) (λ k. false || eqb k 0) u
-        (λ x r. legal-room t.ku t.kl t.age t.count l x f among r.below) (λ k i. sym (slots-few t.count k few)) z o a
+        redone-exactly (λ x. bit l (at_of t.step.age t.step.count x)) (λ k. false || eqb k 0) u
+        (λ x r. legal-room t.streets.upper t.streets.lower t.step.age t.step.count l x f among r.below) (λ k i. sym (slots-few t.step.count k few)) z o a
 
-    pub five-exactly : (l e any : ℕ) (u : List ℕ) → t.count ≡ 5 → Legal t.ku t.kl 5 l → 4 ≤ e → e ≤ 4 →
-        Sifts s g (between 1 e) (Five t.age l s g h) u any → Exactly s g (Reached t s g) u
+    pub five-exactly : (l e any : ℕ) (u : List ℕ) → t.step.count ≡ 5 → Legal t.streets.upper t.streets.lower 5 l → 4 ≤ e → e ≤ 4 →
+        Sifts s g (between 1 e) (Five t.step.age l s g h) u any → Exactly s g (Reached t s g) u
     five-exactly l e any u eb f i j a =
         let d : e ≡ 4 = omega arith in
-        redone-exactly (λ x. bit l (at_of t.age 5 x)) (between 1 e) u
+        redone-exactly (λ x. bit l (at_of t.step.age 5 x)) (between 1 e) u
         (λ x r.
         let b : x < fact 5 = rw eb at r.below in
-        legal-room t.ku t.kl t.age 5 l x f (omega (arith, among)) b ∙ ap (λ (n : ℕ). room_at t.ku t.kl t.age n x) (sym eb))
-        (λ k m. ap (λ (n : ℕ). between 1 n k) d ∙ sym (slots-five t.count k eb)) z o a.redone
+        legal-room t.streets.upper t.streets.lower t.step.age 5 l x f (omega (arith, among)) b ∙ ap (λ (n : ℕ). room_at t.streets.upper t.streets.lower t.step.age n x) (sym eb))
+        (λ k m. ap (λ (n : ℕ). between 1 n k) d ∙ sym (slots-five t.step.count k eb)) z o a.redone
 
-    pub six-exactly : (e any : ℕ) (u : List ℕ) → t.count ≡ 6 → 6 ≤ t.ku + t.kl → 4 ≤ e → e ≤ 4 →
-        Sifts s g (paired e) (Six t.age s g h) u any → Exactly s g (Reached t s g) u
+    pub six-exactly : (e any : ℕ) (u : List ℕ) → t.step.count ≡ 6 → 6 ≤ t.streets.upper + t.streets.lower → 4 ≤ e → e ≤ 4 →
+        Sifts s g (paired e) (Six t.step.age s g h) u any → Exactly s g (Reached t s g) u
     six-exactly e any u eb sum i j a =
         let d : e ≡ 4 = omega arith in
-        let eu : t.ku ≡ 3 = omega (arith, sound.upper, sound.lower) in
-        let el : t.kl ≡ 3 = omega (arith, sound.upper, sound.lower) in
-        redone-exactly (room_at 3 3 t.age 6) (paired e) u (λ x r. rw (eu, el, eb))
-        (λ k m. ap (λ (n : ℕ). paired n k) d ∙ pair-all t.count k eb) z o a.redone
+        let eu : t.streets.upper ≡ 3 = omega (arith, t.streets.upper_few, t.streets.lower_few) in
+        let el : t.streets.lower ≡ 3 = omega (arith, t.streets.upper_few, t.streets.lower_few) in
+        redone-exactly (room_at 3 3 t.step.age 6) (paired e) u (λ x r. rw (eu, el, eb))
+        (λ k m. ap (λ (n : ℕ). paired n k) d ∙ pair-all t.step.count k eb) z o a.redone
 
   -- where no order fits nothing is led to
-  pub none-exactly : t.ku + t.kl < t.count → Empty s g → Exactly s g (Reached t s g) s
+  pub none-exactly : t.streets.upper + t.streets.lower < t.step.count → Empty s g → Exactly s g (Reached t s g) s
   none-exactly c z = unreached t s g z (λ x r. room-sum r.rank c (leads-room r.rank x r.leads).1)

@@ -5,6 +5,7 @@ use mathlib.Core.List.{List}
 use Prim.Native.Nat.{ℕ, zero, suc, ◌+◌, ◌-◌, ◌*◌, ◌/◌, ◌%◌, ◌^◌, ◌≤◌, ◌<◌, min, max}
 use native.Mathlib.Nat.{div_self, div-eq_of_lt, zero-div, mod-lt, mul_assoc}
 use native.Mathlib.Omega.{arith}
+use Rattle.std.specs.Int.{w32, to_le_bytes}
 use lib.ListN.{length, get_or, set, length-set}
 use lib.Seq.{get_or-set_same, get_or-set_other}
 use lib.Bits.{bit_and, bit_or, and_shr, or_shr, and_step, or_step, shifted_even, or_shifted}
@@ -184,16 +185,16 @@ module _ (s : List ℕ) (i a b c d : ℕ) where
       get_or-set_other s₁ (i + 1) i b 0 (λ e. omega arith) ∙ get_or-set_same s i a 0 (omega arith) in
       rw (e₀, e₁, e₂, e₃)
 
--- a word put into its slot
-pub word-written : (s : List ℕ) (g k w : ℕ) → stretch * suc g ≤ length s → k < slots →
-    Written s g k w (four_put s (stretch * g + 4 * k) (w % 256) (w / 256 % 256) (w / 65536 % 256) (w / 16777216))
+-- a word put into its slot, by its bytes
+pub word-written : (s : List ℕ) (g k w : ℕ) (b : List ℕ) → stretch * suc g ≤ length s → k < slots → w < 2 ^ 32 → b ≡ to_le_bytes w32 w →
+    Written s g k w (four_put s (stretch * g + 4 * k) (get_or b 0 0) (get_or b 1 0) (get_or b 2 0) (get_or b 3 0))
 unfolding word_at
-word-written s g k w hg hk =
+word-written s g k w b hg hk hw e =
     let i : ℕ = stretch * g + 4 * k in
     record {
-      long = four-length s i (w % 256) (w / 256 % 256) (w / 65536 % 256) (w / 16777216);
-      own = four-own s i (w % 256) (w / 256 % 256) (w / 65536 % 256) (w / 16777216) (omega arith) ∙ omega arith;
-      others = λ h j l f. four-apart s i (w % 256) (w / 256 % 256) (w / 65536 % 256) (w / 16777216) (stretch * h + 4 * j)
+      long = four-length s i (get_or b 0 0) (get_or b 1 0) (get_or b 2 0) (get_or b 3 0);
+      own = four-own s i (get_or b 0 0) (get_or b 1 0) (get_or b 2 0) (get_or b 3 0) (omega arith) ∙ rw e (omega arith);
+      others = λ h j l f. four-apart s i (get_or b 0 0) (get_or b 1 0) (get_or b 2 0) (get_or b 3 0) (stretch * h + 4 * j)
           (λ m n hm hn e. let q : h ≡ g = omega arith in f q (omega arith));
     }
 

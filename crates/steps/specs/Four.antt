@@ -5,7 +5,7 @@ use Rattle.std.specs.Prelude.{◌≡◌, Bool, true, false, ◌&&◌, ◌||◌, 
 use Rattle.std.specs.Int.Bits.{bit_and, bit_or}
 use Rattle.rules.specs.Basic.{pick}
 use Rattle.rules.specs.Street.{fits}
-use Rattle.steps.specs.declared.rank.Stop.{Stop}
+use Rattle.steps.specs.declared.plan.Stop.{Stop}
 use Rattle.steps.specs.declared.end.Five.{Five}
 use Rattle.steps.specs.Ranks.{fact, at_of, less_of}
 use Rattle.steps.specs.Sets.{slots, word_at, bit}
@@ -56,7 +56,7 @@ piece_left e p x = image (λ m. left_of e (6 * p + m)) x 6
 
 -- the words of the tables: in byte p of word x what is left of a piece x where it is the one of p; what leads back; who stands where;
 -- where the net of a node may stand, of b that are open there; a net's place in an order and the rank of the others
-pub record Tables (t : List ℕ) : Type 0 where
+pub record TableWords (t : List ℕ) : Type 0 where
   pub long : length t ≡ 800
   pub rest : (e p x : ℕ) → e < 4 → p < 4 → x < 64 → get_or t (64 * e + x) 0 / 2 ^ (8 * p) % 256 ≡ piece_left e p x
   pub back : (e y : ℕ) → e < 4 → y < 64 → get_or t (256 + 64 * e + y) 0 ≡ gather (λ i. bit y (left_of e i)) 24

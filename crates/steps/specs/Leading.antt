@@ -1,7 +1,7 @@
 -- What one node leads to: from a rank, from the ranks before it, and back from marked ranks.
 use Rattle.std.specs.Prelude.{◌≡◌, true, List, ℕ, ◌<◌}
 use Rattle.std.proofs.Math.Option.{some}
-use Rattle.steps.specs.declared.rank.Stop.{Stop}
+use Rattle.steps.specs.declared.plan.Stop.{Stop}
 use Rattle.steps.specs.Ranks.{capacity, fact, RankOf}
 use Rattle.steps.specs.Sets.{ranks, marked, source}
 use Rattle.steps.specs.Stops.{hop_at}
@@ -14,13 +14,13 @@ pub record Leads (t : Stop) (r x : ℕ) : Type 0 where
 -- the stop leads to rank x from a rank of the nets that it finds open
 pub record Led (t : Stop) (x : ℕ) : Type 0 where
   pub rank : ℕ
-  pub of : RankOf t.count rank
+  pub of : RankOf t.step.count rank
   pub leads : Leads t rank x
 
 -- the stop leads from a rank before node g to rank x
 pub record Reached (t : Stop) (s : List ℕ) (g x : ℕ) : Type 0 where
   pub rank : ℕ
-  pub below : rank < fact t.count
+  pub below : rank < fact t.step.count
   pub from : source s g rank ≡ true
   pub leads : Leads t rank x
 

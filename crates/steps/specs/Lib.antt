@@ -5,4 +5,5 @@ pub mod Stops
 pub mod Leading
 pub mod Four
 pub mod Masks
+pub mod Nodes
 pub mod Opening

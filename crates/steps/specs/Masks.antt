@@ -3,7 +3,7 @@ use Rattle.std.specs.Prelude.{◌≡◌, Bool, true, false, ◌&&◌, List, ℕ,
 use Rattle.std.specs.Int.Bits.{bit_and}
 use Rattle.rules.specs.Basic.{pick}
 use Rattle.rules.specs.Street.{fits}
-use Rattle.steps.specs.declared.rank.Stop.{Stop}
+use Rattle.steps.specs.declared.plan.Stop.{Stop}
 use Rattle.steps.specs.Ranks.{RankOf, at_of}
 use Rattle.steps.specs.Sets.{held, slot, word_at, bit, marked, source, Written}
 
@@ -20,11 +20,11 @@ unfoldable pub room_at : (ku kl a b r : ℕ) → Bool
 room_at ku kl a b r = fits ku kl (suc (at_of a b r)) b
 
 abbrev pub roomy : Stop → ℕ → Bool
-roomy t r = room_at t.ku t.kl t.age t.count r
+roomy t r = room_at t.streets.upper t.streets.lower t.step.age t.step.count r
 
 -- the ranks before node g are of the nets that the stop finds open
 abbrev pub Sources : Stop → List ℕ → ℕ → Type 0
-Sources t s g = (r : ℕ) → source s g r ≡ true → RankOf t.count r
+Sources t s g = (r : ℕ) → source s g r ≡ true → RankOf t.step.count r
 
 -- t is s but for the words of K in gap g, in which the ranks of Q are marked
 pub record Redone (s : List ℕ) (g : ℕ) (K Q : ℕ → Bool) (t : List ℕ) : Type 0 where

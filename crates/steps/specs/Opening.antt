@@ -1,7 +1,7 @@
 -- What an opening by words ensures: which ranks of the gap after it are marked, and which of the gap before it stay.
 --
 -- A new net at place p among b others, over an order of rank r, makes rank p · b! + r.
-use Rattle.std.specs.Prelude.{◌≡◌, true, false, ◌&&◌, ◌||◌, List, [], ◌∷◌, ℕ, suc, ◌+◌, ◌*◌, ◌/◌, ◌%◌, ◌<◌, ◌≤◌, length}
+use Rattle.std.specs.Prelude.{◌≡◌, true, false, ◌&&◌, ◌||◌, List, ℕ, suc, ◌+◌, ◌*◌, ◌/◌, ◌%◌, ◌<◌, ◌≤◌, length}
 use Rattle.rules.specs.Street.{fits}
 use Rattle.steps.specs.Ranks.{fact}
 use Rattle.steps.specs.Sets.{ranks, held, slot, bit, marked, source}
@@ -9,12 +9,6 @@ use Rattle.steps.specs.Sets.{ranks, held, slot, bit, marked, source}
 -- words that have no bit but those of 24 ranks are below this
 abbrev pub wide : ℕ
 wide = 16777216
-
--- streets of at most three tracks that five nets can stand between
-pub record Fifth (ku kl : ℕ) : Type 0 where
-  pub upper : ku ≤ 3
-  pub lower : kl ≤ 3
-  pub sum : 5 ≤ ku + kl
 
 -- the word w has the ranks before node g that slot k has bits for
 pub record Before (s : List ℕ) (g k w : ℕ) : Type 0 where
@@ -25,10 +19,6 @@ pub record Before (s : List ℕ) (g k w : ℕ) : Type 0 where
 pub record Places (ku kl b m : ℕ) : Type 0 where
   pub small : m < wide
   pub told : (x : ℕ) → x < 24 → bit m x ≡ fits ku kl (suc (x / fact b)) (suc b)
-
--- such words by one number, 16 · b + 4 · ku + kl
-abbrev pub places_by : List ℕ
-places_by = 0 ∷ 1 ∷ 1 ∷ 1 ∷ 1 ∷ 1 ∷ 1 ∷ 1 ∷ 1 ∷ 1 ∷ 1 ∷ 1 ∷ 1 ∷ 1 ∷ 1 ∷ 1 ∷ 0 ∷ 0 ∷ 1 ∷ 1 ∷ 0 ∷ 3 ∷ 3 ∷ 3 ∷ 2 ∷ 3 ∷ 3 ∷ 3 ∷ 2 ∷ 3 ∷ 3 ∷ 3 ∷ 0 ∷ 0 ∷ 0 ∷ 3 ∷ 0 ∷ 0 ∷ 15 ∷ 15 ∷ 0 ∷ 60 ∷ 63 ∷ 63 ∷ 48 ∷ 60 ∷ 63 ∷ 63 ∷ 0 ∷ 0 ∷ 0 ∷ 0 ∷ 0 ∷ 0 ∷ 0 ∷ 4095 ∷ 0 ∷ 0 ∷ 262080 ∷ 262143 ∷ 0 ∷ 16773120 ∷ 16777152 ∷ 16777215 ∷ []
 
 -- of the ranks of a word only those below n are marked
 abbrev pub Under : (w n : ℕ) → Type 0

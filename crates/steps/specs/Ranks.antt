@@ -4,11 +4,10 @@
 use Rattle.std.specs.Prelude.{◌≡◌, ◌&&◌, List, [], ◌∷◌, ℕ, zero, suc, ◌+◌, ◌-◌, ◌*◌, ◌/◌, ◌%◌, ◌<◌, ◌≤◌, length, leb, eqb}
 use Rattle.std.proofs.Math.Option.{Option, none, some}
 use Rattle.rules.specs.Basic.{pick, put, keep, and_then}
-use Rattle.rules.specs.Row.{N}
+use Rattle.rules.specs.declared.Kind.TheVariants.{B, M, E, N}
 use Rattle.rules.specs.Street.{fits, fits_at}
-use Rattle.rules.specs.Sheet.{kind_in}
 use Rattle.rules.specs.Judgement.{left}
-use Rattle.steps.specs.Plan.{Step, step}
+use Rattle.steps.specs.declared.plan.Step.{Step}
 
 -- the most nets that can be open: two streets have at most six tracks. The positions that the limits allow are below it.
 abbrev pub capacity : ℕ
@@ -46,10 +45,13 @@ less_of (suc a) (suc b) r = spared (r / fact b) (at_of a b (r % fact b)) * fact 
 
 -- one node on ranks, at position p: the rank after it, or none where a rule of the street is broken
 unfoldable pub hop_of : (ku kl : ℕ) → Step → (r p : ℕ) → Option ℕ
-hop_of ku kl (step zero a b) r p = keep (fits ku kl (suc p) (suc b)) (p * fact b + r)
-hop_of ku kl (step (suc zero) a b) r p = keep (eqb p (at_of a b r) && fits ku kl (suc p) b) r
-hop_of ku kl (step (suc (suc zero)) a b) r p = keep (eqb p (at_of a b r) && fits ku kl (suc p) b) (less_of a b r)
-hop_of ku kl (step (suc (suc (suc k))) a b) r p = keep (fits_at N ku kl (suc p) b) r
+hop_of ku kl s r p =
+    elim s.kind [
+      | B ↦ keep (fits ku kl (suc p) (suc s.count)) (p * fact s.count + r)
+      | M ↦ keep (eqb p (at_of s.age s.count r) && fits ku kl (suc p) s.count) r
+      | E ↦ keep (eqb p (at_of s.age s.count r) && fits ku kl (suc p) s.count) (less_of s.age s.count r)
+      | N ↦ keep (fits_at N ku kl (suc p) s.count) r
+    ]
 
 -- the steps from rank r on, with a position for each
 unfoldable pub hops : (ku kl : ℕ) → List Step → ℕ → List ℕ → Option ℕ
@@ -61,7 +63,7 @@ hops ku kl (s ∷ ss) r (p ∷ ps) = and_then (hop_of ku kl s r p) (λ x. hops k
 -- the nets open after steps, where b were before them
 unfoldable pub open_after : ℕ → List Step → ℕ
 open_after b [] = b
-open_after b (step k a c ∷ ss) = open_after (left (kind_in k) b) ss
+open_after b (s ∷ ss) = open_after (left s.kind b) ss
 
 -- r is the rank of an order of b nets that hops can lead to: of five or six, the fifth has one, two or three of its elders above it, and of six the youngest has two or
 -- three others

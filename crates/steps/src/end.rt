@@ -1,17 +1,20 @@
 // One net's ending, forward and back, by words: the sets before and after it in a few operations.
 ghost use Rattle.std.specs.Prelude.{◌≡◌, true, ◌&&◌, ℕ, suc, ◌+◌, ◌-◌, ◌*◌, ◌^◌, ◌≤◌, ◌<◌, length, eqb};
-ghost use Rattle.std.specs.Int.Bits.{bit_and, bit_or};
+ghost use Rattle.std.specs.Int.Bits.{bit_or};
 ghost use Rattle.rules.specs.Basic.{pick};
+ghost use Rattle.rules.specs.declared.Kind.TheVariants.{E};
 ghost use Rattle.steps.specs.Ranks.{fact};
-ghost use Rattle.steps.specs.Sets.{stretch, slots, word_at, bit, Written, Empty, Bare, Exactly, Loses};
+ghost use Rattle.steps.specs.Sets.{stretch, bit, Bare, Exactly, Loses};
 ghost use Rattle.steps.specs.Stops.{Sound};
 ghost use Rattle.steps.specs.Leading.{Reached, Onward};
 ghost use Rattle.steps.specs.Masks.{between, Sources};
-ghost use Rattle.steps.specs.Four.{Changed, SixLeft, SixBack, none, left_of, Tables, word_before, Gone, comes, Anded, nth, within, over_at, under_at, Passing, Piece, Inside};
+ghost use Rattle.steps.specs.Nodes.{ToSpread, ToPrune};
+ghost use Rattle.steps.specs.Four.{Changed, SixLeft, SixBack, none, left_of, word_before, Gone, comes, Anded, nth, within, over_at, under_at, Passing, Piece, Inside};
 
-use crate::four::{back, few_at, legal, standing, taken, without};
-use crate::rank::Stop;
-use crate::word::{put_word, word};
+use crate::older::Older;
+use crate::plan::Stop;
+use crate::tables::{Tables, taken};
+use crate::word::{before, keep_word, put_word, word};
 
 // Orders of five nets, a word of them for each place of the youngest: it has one, two or three above it.
 #[derive(Clone, Copy)]
@@ -22,57 +25,47 @@ pub struct Five {
 }
 
 // Marks in gap g, which is empty, every rank that node g, an E, leads to, and tells whether there is none.
-pub fn end(work: &mut [u8], g: usize, stop: Stop, tables: &[u32]) -> bool
-    requires sound { Sound stop × (stop.kind ≡ 2) × (stretch * suc g ≤ length work.old) }
-    requires empty { Empty work.old g }
-    requires sources { Sources stop work.old g }
-    requires tables { Tables tables.now }
+pub fn end(work: &mut [u8], g: usize, stop: Stop, tables: Tables) -> bool
+    requires given { ToSpread stop work.old g }
+    requires kind { stop.step.kind ≡ E }
     ensures exactly { Exactly work.old g (Reached stop work.old g) work.new }
     ensures bare { Bare work.new g result }
 {
-    let b = stop.count;
-    if b < 5 {
-        return end_few(work, g, stop, tables);
+    if stop.step.count < 5 {
+        end_few(work, g, stop, tables)
+    } else if stop.step.count == 5 {
+        end_five(work, g, stop, tables)
+    } else {
+        end_six(work, g, stop, tables)
     }
-    if b == 5 {
-        return end_five(work, g, stop, tables);
-    }
-    end_six(work, g, stop, tables)
 }
 
 // Leaves in gap g only the ranks from which the node after it, an E, leads to a marked rank.
-pub fn unend(work: &mut [u8], g: usize, stop: Stop, tables: &[u32])
-    requires sound { Sound stop × (stop.kind ≡ 2) × (stretch * suc (suc g) ≤ length work.old) }
-    requires sources { Sources stop work.old (suc g) }
-    requires tables { Tables tables.now }
+pub fn unend(work: &mut [u8], g: usize, stop: Stop, tables: Tables)
+    requires given { ToPrune stop work.old g }
+    requires kind { stop.step.kind ≡ E }
     ensures { Loses work.old g (Onward stop work.old (suc g)) work.new }
 {
-    let b = stop.count;
-    if b < 5 {
-        unend_few(work, g, stop, tables);
-        return;
+    if stop.step.count < 5 {
+        unend_few(work, g, stop, tables)
+    } else if stop.step.count == 5 {
+        unend_five(work, g, stop, tables)
+    } else {
+        unend_six(work, g, stop, tables)
     }
-    if b == 5 {
-        unend_five(work, g, stop, tables);
-        return;
-    }
-    unend_six(work, g, stop, tables);
 }
 
 // A net ends with at most four open.
-fn end_few(work: &mut [u8], g: usize, stop: Stop, tables: &[u32]) -> bool
-    requires sound { Sound stop × (stop.kind ≡ 2) × (stretch * suc g ≤ length work.old) }
-    requires empty { Empty work.old g }
-    requires sources { Sources stop work.old g }
-    requires tables { Tables tables.now × (stop.count ≤ 4) }
+fn end_few(work: &mut [u8], g: usize, stop: Stop, tables: Tables) -> bool
+    requires given { ToSpread stop work.old g }
+    requires kind { stop.step.kind ≡ E }
+    requires count { stop.step.count ≤ 4 }
     ensures exactly { Exactly work.old g (Reached stop work.old g) work.new }
     ensures bare { Bare work.new g result }
 {
-    let b = stop.count as usize;
-    let a = stop.age as usize;
-    let ku = stop.ku;
-    let kl = stop.kl;
-    let l = legal(tables, ku, kl, b);
+    let b = stop.step.count as usize;
+    let a = stop.step.age as usize;
+    let l = tables.legal(stop.streets, b);
     let w = before(work, g, 0);
     let n = few_left(tables, b, a, l, w);
     put_word(work, g, 0, n);
@@ -80,53 +73,48 @@ fn end_few(work: &mut [u8], g: usize, stop: Stop, tables: &[u32]) -> bool
 }
 
 // Back over such an ending.
-fn unend_few(work: &mut [u8], g: usize, stop: Stop, tables: &[u32])
-    requires sound { Sound stop × (stop.kind ≡ 2) × (stretch * suc (suc g) ≤ length work.old) }
-    requires sources { Sources stop work.old (suc g) }
-    requires tables { Tables tables.now × (stop.count ≤ 4) }
+fn unend_few(work: &mut [u8], g: usize, stop: Stop, tables: Tables)
+    requires given { ToPrune stop work.old g }
+    requires kind { stop.step.kind ≡ E }
+    requires count { stop.step.count ≤ 4 }
     ensures { Loses work.old g (Onward stop work.old (suc g)) work.new }
 {
-    let b = stop.count as usize;
-    let a = stop.age as usize;
-    let ku = stop.ku;
-    let kl = stop.kl;
-    let l = legal(tables, ku, kl, b);
+    let b = stop.step.count as usize;
+    let a = stop.step.age as usize;
+    let l = tables.legal(stop.streets, b);
     let n = word(work, g + 1, 0);
     keep_word(work, g, 0, few_back(tables, b, a, l, n));
 }
 
 // The orders left of those of w where the net of age a of b, at most four, ends at a place of l.
-fn few_left(tables: &[u32], b: usize, a: usize, l: u32, w: u32) -> u32
-    requires tables { Tables tables.now × (a < b) × (b ≤ 4) × (l < 2 ^ b) }
+fn few_left(tables: Tables, b: usize, a: usize, l: u32, w: u32) -> u32
+    requires few { (a < b) × (b ≤ 4) × (l < 2 ^ b) }
     requires by_index { (r : ℕ) → r < 24 → bit w r ≡ true → r < fact b }
     ensures { Gone b a l (bit w) result }
 {
-    let z = few_at(tables, b, a, l);
-    without(tables, b - 1 - a, w & z)
+    let z = tables.few_at(b, a, l);
+    tables.without(b - 1 - a, w & z)
 }
 
 // The orders that leave one of n.
-fn few_back(tables: &[u32], b: usize, a: usize, l: u32, n: u32) -> u32
-    requires { Tables tables.now × (a < b) × (b ≤ 4) × (l < 2 ^ b) }
+fn few_back(tables: Tables, b: usize, a: usize, l: u32, n: u32) -> u32
+    requires { (a < b) × (b ≤ 4) × (l < 2 ^ b) }
     ensures { (r : ℕ) → r < fact b → bit result r ≡ comes b a l n r }
 {
-    let z = few_at(tables, b, a, l);
-    z & back(tables, b - 1 - a, n % 64)
+    let z = tables.few_at(b, a, l);
+    z & tables.back(b - 1 - a, n % 64)
 }
 
 // A net ends with five open.
-fn end_five(work: &mut [u8], g: usize, stop: Stop, tables: &[u32]) -> bool
-    requires sound { Sound stop × (stop.kind ≡ 2) × (stretch * suc g ≤ length work.old) }
-    requires empty { Empty work.old g }
-    requires sources { Sources stop work.old g }
-    requires tables { Tables tables.now × (stop.count ≡ 5) }
+fn end_five(work: &mut [u8], g: usize, stop: Stop, tables: Tables) -> bool
+    requires given { ToSpread stop work.old g }
+    requires kind { stop.step.kind ≡ E }
+    requires count { stop.step.count ≡ 5 }
     ensures exactly { Exactly work.old g (Reached stop work.old g) work.new }
     ensures bare { Bare work.new g result }
 {
-    let a = stop.age as usize;
-    let ku = stop.ku;
-    let kl = stop.kl;
-    let l = legal(tables, ku, kl, 5);
+    let a = stop.step.age as usize;
+    let l = tables.legal(stop.streets, 5);
     let five = five_before(work, g, 0);
     let n = five_left(tables, a, l, five);
     put_word(work, g, 0, n);
@@ -134,26 +122,23 @@ fn end_five(work: &mut [u8], g: usize, stop: Stop, tables: &[u32]) -> bool
 }
 
 // Back over such an ending.
-fn unend_five(work: &mut [u8], g: usize, stop: Stop, tables: &[u32])
-    requires sound { Sound stop × (stop.kind ≡ 2) × (stretch * suc (suc g) ≤ length work.old) }
-    requires sources { Sources stop work.old (suc g) }
-    requires tables { Tables tables.now × (stop.count ≡ 5) }
+fn unend_five(work: &mut [u8], g: usize, stop: Stop, tables: Tables)
+    requires given { ToPrune stop work.old g }
+    requires kind { stop.step.kind ≡ E }
+    requires count { stop.step.count ≡ 5 }
     ensures { Loses work.old g (Onward stop work.old (suc g)) work.new }
 {
-    let a = stop.age as usize;
-    let ku = stop.ku;
-    let kl = stop.kl;
-    let l = legal(tables, ku, kl, 5);
+    let a = stop.step.age as usize;
+    let l = tables.legal(stop.streets, 5);
     let n = word(work, g + 1, 0);
     keep_five(work, g, 0, five_back(tables, a, l, n));
 }
 
 // A net ends with six open.
-fn end_six(work: &mut [u8], g: usize, stop: Stop, tables: &[u32]) -> bool
-    requires sound { Sound stop × (stop.kind ≡ 2) × (stretch * suc g ≤ length work.old) }
-    requires empty { Empty work.old g }
-    requires sources { Sources stop work.old g }
-    requires tables { Tables tables.now × (stop.count ≡ 6) }
+fn end_six(work: &mut [u8], g: usize, stop: Stop, tables: Tables) -> bool
+    requires given { ToSpread stop work.old g }
+    requires kind { stop.step.kind ≡ E }
+    requires count { stop.step.count ≡ 6 }
     ensures exactly { Exactly work.old g (Reached stop work.old g) work.new }
     ensures bare { Bare work.new g result }
 {
@@ -162,10 +147,10 @@ fn end_six(work: &mut [u8], g: usize, stop: Stop, tables: &[u32]) -> bool
 }
 
 // Back over such an ending.
-fn unend_six(work: &mut [u8], g: usize, stop: Stop, tables: &[u32])
-    requires sound { Sound stop × (stop.kind ≡ 2) × (stretch * suc (suc g) ≤ length work.old) }
-    requires sources { Sources stop work.old (suc g) }
-    requires tables { Tables tables.now × (stop.count ≡ 6) }
+fn unend_six(work: &mut [u8], g: usize, stop: Stop, tables: Tables)
+    requires given { ToPrune stop work.old g }
+    requires kind { stop.step.kind ≡ E }
+    requires count { stop.step.count ≡ 6 }
     ensures { Loses work.old g (Onward stop work.old (suc g)) work.new }
 {
     let five = six_back(work, g, stop, tables);
@@ -175,16 +160,14 @@ fn unend_six(work: &mut [u8], g: usize, stop: Stop, tables: &[u32])
 
 // The orders of five that are left. The youngest of six, if it stays, and the net that ends are the two in the middle: without either the other is
 // third of five.
-fn six_left(work: &[u8], g: usize, stop: Stop, tables: &[u32]) -> Five
-    requires sound { Sound stop × (stop.kind ≡ 2) × (stretch * g ≤ length work.now) }
+fn six_left(work: &[u8], g: usize, stop: Stop, tables: Tables) -> Five
+    requires sound { Sound stop × (stop.step.kind ≡ E) × (stretch * g ≤ length work.now) }
     requires sources { Sources stop work.now g }
-    requires tables { Tables tables.now × (stop.count ≡ 6) }
+    requires count { stop.step.count ≡ 6 }
     ensures { SixLeft stop work.now g result }
 {
-    let a = stop.age as usize;
-    let ku = stop.ku as usize;
-    let kl = stop.kl as usize;
-    if ku + kl < 6 {
+    let a = stop.step.age as usize;
+    if stop.streets.upper + stop.streets.lower < 6 {
         return third_alone(0);
     }
     let five = either(five_before(work, g, 5), five_before(work, g, 10));
@@ -195,15 +178,13 @@ fn six_left(work: &[u8], g: usize, stop: Stop, tables: &[u32]) -> Five
 }
 
 // The orders of the five older nets that lead on.
-fn six_back(work: &[u8], g: usize, stop: Stop, tables: &[u32]) -> Five
-    requires sound { Sound stop × (stop.kind ≡ 2) × (stretch * suc (suc g) ≤ length work.now) }
-    requires tables { Tables tables.now × (stop.count ≡ 6) }
+fn six_back(work: &[u8], g: usize, stop: Stop, tables: Tables) -> Five
+    requires sound { Sound stop × (stop.step.kind ≡ E) × (stretch * suc (suc g) ≤ length work.now) }
+    requires count { stop.step.count ≡ 6 }
     ensures { SixBack stop work.now g result }
 {
-    let a = stop.age as usize;
-    let ku = stop.ku as usize;
-    let kl = stop.kl as usize;
-    if ku + kl < 6 {
+    let a = stop.step.age as usize;
+    if stop.streets.upper + stop.streets.lower < 6 {
         return third_alone(0);
     }
     if a == 0 {
@@ -236,14 +217,19 @@ fn either(x: Five, y: Five) -> Five
 }
 
 // The orders of four left of those of five where the net of age a of five ends at a place of l.
-fn five_left(tables: &[u32], a: usize, l: u32, five: Five) -> u32
-    requires { Tables tables.now × (a < 5) × Inside l }
+fn five_left(tables: Tables, a: usize, l: u32, five: Five) -> u32
+    requires { (a < 5) × Inside l }
     ensures { Gone 5 a l (within five) result }
 {
     if a == 0 {
         return youngest_left(l, five);
     }
-    older_left(tables, 4 - a, l, five)
+    let older = Older {
+        tables,
+        elders: 4 - a,
+        places: l,
+    };
+    older.left(five)
 }
 
 // The same where it is the youngest: the others stay as they are.
@@ -254,45 +240,9 @@ fn youngest_left(l: u32, five: Five) -> u32
     (a | taken(l, 3, five.fourth)) % 16777216
 }
 
-// The same where it has e elders: the youngest is the youngest of the four that are left, and has one or two above it.
-fn older_left(tables: &[u32], e: usize, l: u32, five: Five) -> u32
-    requires { Tables tables.now × (e < 4) × Inside l }
-    ensures { Gone 5 (4 - e) l (within five) result }
-{
-    let b = piece_left(tables, e, l, 1, five.second, five.third);
-    let c = piece_left(tables, e, l, 2, five.third, five.fourth);
-    (c * 64 + b) * 64
-}
-
-// The ranks of three left with the youngest at d: of x it was there and the net below, of y one lower and the net above.
-fn piece_left(tables: &[u32], e: usize, l: u32, d: usize, x: u32, y: u32) -> u32
-    requires { Tables tables.now × (e < 4) × (l < 32) × (d < 4) }
-    ensures { Piece e l d x y result }
-{
-    let over = over_at(tables, e, l, d);
-    let under = under_at(tables, e, l, d);
-    without(tables, e, x & over | y & under)
-}
-
-// The orders of four in which the net with e elders stands at d or lower, and is at a place of l with one more above.
-fn over_at(tables: &[u32], e: usize, l: u32, d: usize) -> u32
-    requires { Tables tables.now × (e < 4) × (l < 32) × (d < 4) }
-    ensures { Passing (over_at e l d) result }
-{
-    standing(tables, e, (l >> (d + 1)) << d)
-}
-
-// The orders of four in which the net with e elders stands at d or higher, and at a place of l.
-fn under_at(tables: &[u32], e: usize, l: u32, d: usize) -> u32
-    requires { Tables tables.now × (e < 4) × (l < 32) × (d < 4) }
-    ensures { Passing (under_at e l d) result }
-{
-    standing(tables, e, l % (2u32 << d))
-}
-
 // The orders of five that leave one of n.
-fn five_back(tables: &[u32], a: usize, l: u32, n: u32) -> Five
-    requires { Tables tables.now × (a < 5) × Inside l }
+fn five_back(tables: Tables, a: usize, l: u32, n: u32) -> Five
+    requires { (a < 5) × Inside l }
     ensures { (r : ℕ) → 24 ≤ r → r < 96 → within result r ≡ comes 5 a l n r }
 {
     if a == 0 {
@@ -302,37 +252,12 @@ fn five_back(tables: &[u32], a: usize, l: u32, n: u32) -> Five
             fourth: taken(l, 3, n),
         };
     }
-    older_back(tables, 4 - a, l, n)
-}
-
-// The same where the net has e elders.
-fn older_back(tables: &[u32], e: usize, l: u32, n: u32) -> Five
-    requires { Tables tables.now × (e < 4) × Inside l }
-    ensures { (r : ℕ) → 24 ≤ r → r < 96 → within result r ≡ comes 5 (4 - e) l n r }
-{
-    Five {
-        second: over_back(tables, e, l, 1, n),
-        third: over_back(tables, e, l, 2, n) | under_back(tables, e, l, 1, n),
-        fourth: under_back(tables, e, l, 2, n),
-    }
-}
-
-// Of these the ones with the youngest at d and the net below it.
-fn over_back(tables: &[u32], e: usize, l: u32, d: usize, n: u32) -> u32
-    requires { Tables tables.now × (e < 4) × (l < 32) × (d < 4) }
-    ensures { Passing (λ i. over_at e l d i && bit n (6 * d + left_of e i)) result }
-{
-    let z = over_at(tables, e, l, d);
-    z & back(tables, e, (n >> (6 * d)) % 64)
-}
-
-// Of these the ones with the youngest at d + 1 and the net above it.
-fn under_back(tables: &[u32], e: usize, l: u32, d: usize, n: u32) -> u32
-    requires { Tables tables.now × (e < 4) × (l < 32) × (d < 4) }
-    ensures { Passing (λ i. under_at e l d i && bit n (6 * d + left_of e i)) result }
-{
-    let z = under_at(tables, e, l, d);
-    z & back(tables, e, (n >> (6 * d)) % 64)
+    let older = Older {
+        tables,
+        elders: 4 - a,
+        places: l,
+    };
+    older.back(n)
 }
 
 // The orders of five in the words before node g, of which slot k would be the one of the youngest on top.
@@ -367,27 +292,4 @@ fn keep_five(work: &mut [u8], g: usize, k: usize, five: Five)
     keep_word(work, g, k + 1, five.second);
     keep_word(work, g, k + 2, five.third);
     keep_word(work, g, k + 3, five.fourth);
-}
-
-// The word in slot k of the set before node g.
-fn before(work: &[u8], g: usize, k: usize) -> u32
-    requires { (stretch * g ≤ length work.now) × (k < slots) }
-    ensures { result ≡ word_before work.now g k }
-{
-    if 0 < g {
-        return word(work, g - 1, k);
-    }
-    if k == 0 {
-        return 1;
-    }
-    0
-}
-
-// Leaves in slot k of gap g only the bits of m.
-fn keep_word(work: &mut [u8], g: usize, k: usize, m: u32)
-    requires { (stretch * suc g ≤ length work.old) × (k < slots) }
-    ensures { Written work.old g k (bit_and (word_at work.old g k) m) work.new }
-{
-    let w = word(work, g, k);
-    put_word(work, g, k, w & m);
 }

@@ -2,9 +2,11 @@
 #![tactic(auto)]
 
 pub mod end;
-pub mod four;
+mod older;
 pub mod open;
+pub mod plan;
 pub mod rank;
 pub mod rest;
+pub mod tables;
 pub mod touch;
 pub mod word;

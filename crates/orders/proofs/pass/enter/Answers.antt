@@ -5,37 +5,25 @@ use Rattle.steps.specs.Ranks.{fact}
 use Rattle.orders.proofs.Entering.{few-somewhere, few-entry}
 use Rattle.orders.proofs.pass.enter.Goals as goal
 
-pub enter_few-requires : goal.enter_few-requires
-enter_few-requires c =
-    let g = c in
-    let a = g.args in record {
-      b_bound = (c.if-b-lt4.true, g.requires.g_in_bounds.2);
-      somewhere = few-somewhere a.b a.r c.if-b-lt4.true g.requires.g_in_bounds.2 a.work.now a.g c.word.result c.word.ensures g.requires.somewhere;
-    }
+pub enter_few-requires-clause-somewhere : goal.enter_few-requires-clause-somewhere
+enter_few-requires-clause-somewhere c =
+    let a = c.args in
+    let h = c.requires in
+    few-somewhere a.b a.r c.if-b-lt4.true h.g_in_bounds.2 a.work.now a.g c.word.result c.word.ensures h.somewhere
 
 pub returns-then-b-lt4 : goal.returns-then-b-lt4
 returns-then-b-lt4 c =
-    let g = c in
-    let a = g.args in
-    let w = c.word in
+    let a = c.args in
     let o = c.enter_few in
-    few-entry a.b a.r c.if-b-lt4.true g.requires.g_in_bounds.2 a.work.now a.g w.result w.ensures o.result.at o.result.rest
-    o.ensures
+    few-entry a.b a.r c.if-b-lt4.true c.requires.g_in_bounds.2 a.work.now a.g c.word.result c.word.ensures o.result.at o.result.rest o.ensures
 
-pub enter_fifth-requires : goal.enter_fifth-requires
+pub enter_fifth-requires-clause-g_in_bounds : goal.enter_fifth-requires-clause-g_in_bounds
 unfolding fact
-enter_fifth-requires c =
-    let g = c in record {
-      g_in_bounds = (g.requires.g_in_bounds.0, rw c.if-b-eq4.true at g.requires.g_in_bounds.2);
-      somewhere = rw c.if-b-eq4.true at g.requires.somewhere;
-    }
+enter_fifth-requires-clause-g_in_bounds c = (c.requires.g_in_bounds.0, rw c.if-b-eq4.true at c.requires.g_in_bounds.2)
 
-pub enter_sixth-requires : goal.enter_sixth-requires
+pub enter_sixth-requires-clause-g_in_bounds : goal.enter_sixth-requires-clause-g_in_bounds
 unfolding fact
-enter_sixth-requires c =
-    let g = c in
-    let e : g.args.b ≡ 5 = omega (arith, g.requires.g_in_bounds.1, c.if-b-eq4.false, c.if-b-lt4.false) in record {
-      g_in_bounds = (g.requires.g_in_bounds.0, rw e at g.requires.g_in_bounds.2);
-      somewhere = rw e at g.requires.somewhere;
-      by_index = λ x m. ((g.requires.by_index x m).middle (omega arith)).0;
-    }
+enter_sixth-requires-clause-g_in_bounds c =
+    let h = c.requires in
+    let e : c.args.b ≡ 5 = omega (arith, h.g_in_bounds.1, c.if-b-lt4.false, c.if-b-eq4.false) in
+    (h.g_in_bounds.0, rw e at h.g_in_bounds.2)

@@ -7,9 +7,8 @@ use Rattle.orders.proofs.pass.enter_few.Goals as goal
 
 pub overflow_shr-w : goal.overflow_shr-w
 overflow_shr-w c =
-    let g = c in
     let l = c.loop-p in
-    let m = few-below g.args.b g.args.r g.requires.b_bound.0 g.requires.b_bound.1 l.p l.invariant.0.low in
+    let m = few-below c.args.b c.args.r c.requires.b_bound.0 c.requires.b_bound.1 l.p l.invariant.0.low in
     omega (arith, m, l.invariant.1)
 
 pub returns-then-w-x-eq1 : goal.returns-then-w-x-eq1

@@ -6,14 +6,12 @@ use Rattle.orders.proofs.pass.enter_sixth.Goals as goal
 
 pub returns-then-word-r-eq1 : goal.returns-then-word-r-eq1
 returns-then-word-r-eq1 c =
-    let g = c in
-    let a = g.args in
+    let a = c.args in
     let w = c.word in
-    sixth-third a.work.now a.g a.r g.requires.g_in_bounds.1 g.requires.by_index w.result w.ensures (bit-set w.result (a.r % 24) c.if-word-r-eq1.true)
+    sixth-third a.work.now a.g a.r c.requires.g_in_bounds.1 c.requires.by_index w.result w.ensures (bit-set w.result (a.r % 24) c.if-word-r-eq1.true)
 
 pub returns : goal.returns
 returns c =
-    let g = c in
-    let a = g.args in
+    let a = c.args in
     let w = c.word in
-    sixth-fourth a.work.now a.g a.r g.requires.g_in_bounds.1 g.requires.by_index w.result w.ensures (bit-unset w.result (a.r % 24) c.if-word-r-eq1.false) g.requires.somewhere
+    sixth-fourth a.work.now a.g a.r c.requires.g_in_bounds.1 c.requires.by_index w.result w.ensures (bit-unset w.result (a.r % 24) c.if-word-r-eq1.false) c.requires.somewhere

@@ -4,65 +4,53 @@ use Rattle.orders.proofs.Filling.{fills-start, fills-cleared, fills-ranks, fills
 use Rattle.orders.proofs.Nodes.{stop-ready, stop-behind}
 use Rattle.orders.proofs.pass.forward.Goals as goal
 
-pub loop-i-init : goal.loop-i-init
-loop-i-init c =
-    let g = c in
-    let a = g.args in
-    fills-start a.kinds.now a.ages.now a.counts.now a.ku a.kl a.work.now g.requires.given
+pub loop-g-init : goal.loop-g-init
+loop-g-init c = fills-start c.args.plan.now c.args.streets c.args.work.now c.requires
 
 pub spread-requires : goal.spread-requires
 spread-requires c =
-    let g = c in
-    let a = g.args in
-    let l = c.loop-i in
-    let p = l.invariant.passes in
-    let t = c.loop-i-test.true in
-    let e = c.stop_at-stop.ensures in
+    let a = c.args in
+    let l = c.loop-g in
+    let t = c.loop-g-test.true in
     let d = c.clear in
-    let f = fills-cleared a.kinds.now a.ages.now a.counts.now a.ku a.kl a.work.now g.requires.given l.i l.work d.new.work
-    l.invariant d.ensures in
-    let s = (stop-ready a.kinds.now a.ages.now a.counts.now a.ku a.kl l.i t a.work.now p.end g.requires.given
-    p.way).0 in record {
-      sound = (
-        rw e s,
-        omega (arith, g.requires.given.room, f.long, t),
-        λ k m. stop-behind a.kinds.now a.ages.now a.counts.now a.ku a.kl l.i t a.work.now g.requires.given (rw e at k) (rw e at m),
-      );
-      empty = d.ensures.sound;
-      sources = rw e (fills-ranks a.kinds.now a.ages.now a.counts.now a.ku a.kl a.work.now g.requires.given l.i d.new.work t f);
-      tables = g.requires.tables;
+    let f = fills-cleared a.plan.now a.streets a.work.now c.requires l.g l.work d.new.work l.invariant d.ensures in
+    let p = f.passes in
+    record {
+      given = record {
+        sound = (stop-ready a.plan.now a.streets l.g t a.work.now p.end c.requires p.way).0;
+        room = omega (arith, c.requires.room, f.long, t);
+        empty = d.ensures.sound;
+        sources = fills-ranks a.plan.now a.streets a.work.now c.requires l.g d.new.work t f;
+      };
+      behind = stop-behind a.plan.now a.streets l.g t a.work.now c.requires;
     }
 
 pub returns-then-spread : goal.returns-then-spread
 returns-then-spread c =
-    let g = c in
-    let a = g.args in
-    let l = c.loop-i in
+    let a = c.args in
+    let l = c.loop-g in
+    let t = c.loop-g-test.true in
     let d = c.clear in
-    let f = fills-cleared a.kinds.now a.ages.now a.counts.now a.ku a.kl a.work.now g.requires.given l.i l.work d.new.work
-    l.invariant d.ensures in
-    let w = c.spread in
-    fills-stuck a.kinds.now a.ages.now a.counts.now a.ku a.kl a.work.now g.requires.given l.i d.new.work w.new.work
-    c.loop-i-test.true f
-    (rw c.stop_at-stop.ensures at w.ensures.exactly) (rw c.if-spread.true at w.ensures.bare)
+    let f = fills-cleared a.plan.now a.streets a.work.now c.requires l.g l.work d.new.work l.invariant d.ensures in
+    let w = c.spread in (
+      fills-stuck a.plan.now a.streets a.work.now c.requires l.g d.new.work w.new.work t f w.ensures.exactly
+          (rw c.if-spread.true at w.ensures.bare),
+      t,
+    )
 
-pub loop-i-preserved : goal.loop-i-preserved
-loop-i-preserved c =
-    let g = c in
-    let a = g.args in
-    let l = c.loop-i in
+pub loop-g-preserved : goal.loop-g-preserved
+loop-g-preserved c =
+    let a = c.args in
+    let l = c.loop-g in
+    let t = c.loop-g-test.true in
     let d = c.clear in
-    let f = fills-cleared a.kinds.now a.ages.now a.counts.now a.ku a.kl a.work.now g.requires.given l.i l.work d.new.work
-    l.invariant d.ensures in
+    let f = fills-cleared a.plan.now a.streets a.work.now c.requires l.g l.work d.new.work l.invariant d.ensures in
     let w = c.spread in
-    fills-step a.kinds.now a.ages.now a.counts.now a.ku a.kl a.work.now g.requires.given l.i d.new.work w.new.work
-    c.loop-i-test.true f
-    (rw c.stop_at-stop.ensures at w.ensures.exactly) (rw c.if-spread.false at w.ensures.bare)
+    fills-step a.plan.now a.streets a.work.now c.requires l.g d.new.work w.new.work t f w.ensures.exactly
+    (rw c.if-spread.false at w.ensures.bare)
 
 pub returns : goal.returns
 returns c =
-    let g = c in
-    let a = g.args in
-    let l = c.loop-i in
-    fills-end a.kinds.now a.ages.now a.counts.now a.ku a.kl a.work.now g.requires.given l.i l.work
-    c.loop-i-test.false l.invariant
+    let a = c.args in
+    let l = c.loop-g in
+    fills-end a.plan.now a.streets a.work.now c.requires l.g l.work (omega (arith, c.loop-g-test.false)) l.invariant

@@ -1,4 +1,4 @@
--- `orders::pass::prune` meets its contract. The loop's invariant: the gaps from that before node i on are pruned.
+-- `orders::pass::prune` meets its contract. The loop's invariant: the gaps from that before node g on are pruned.
 use mathlib.Core.Path.{◌≡◌}
 use Prim.Native.Nat.{suc, ◌-◌}
 use native.Mathlib.Omega.{arith}
@@ -6,48 +6,41 @@ use Rattle.orders.proofs.Pruning.{prunes-start, mark-ranks, mark-reached, prunes
 use Rattle.orders.proofs.Nodes.{stop-sound}
 use Rattle.orders.proofs.pass.prune.Goals as goal
 
-pub loop-i-init : goal.loop-i-init
-loop-i-init c =
-    let g = c in
-    let a = g.args in
-    prunes-start a.kinds.now a.ages.now a.counts.now a.ku a.kl a.work.now g.requires.given g.requires.filled
+pub loop-g-init : goal.loop-g-init
+loop-g-init c =
+    let h = c.requires in
+    prunes-start c.args.plan.now c.args.streets c.args.work.now h.given h.filled
 
 pub prune_set-requires : goal.prune_set-requires
 prune_set-requires c =
-    let g = c in
-    let a = g.args in
-    let l = c.loop-i in
-    let t = c.loop-i-test.true in
-    let ei : l.i ≡ suc (l.i - 1) = omega (arith, t) in
-    let eh : l.i - 1 ≡ suc (l.i - 1 - 1) = omega (arith, t) in
-    let s = stop-sound a.kinds.now a.ages.now a.counts.now a.ku a.kl (l.i - 1) a.work.now
-    (omega (arith, l.invariant.node, t)) g.requires.given g.requires.passable in
-    let b = mark-ranks a.kinds.now a.ages.now a.counts.now a.ku a.kl a.work.now g.requires.given g.requires.filled l.i
-    (l.i - 1) (l.i - 1 - 1) l.work ei eh l.invariant in
-    let r = mark-reached a.kinds.now a.ages.now a.counts.now a.ku a.kl a.work.now g.requires.given g.requires.filled l.i
-    (l.i - 1) (l.i - 1 - 1) l.work ei eh l.invariant in record {
-      sound = (rw c.stop_at-stop.ensures s, omega (arith, g.requires.given.room, l.invariant.long, l.invariant.node));
-      tables = g.requires.tables;
-      sources = rw c.stop_at-stop.ensures b;
-      by_index = rw c.stop_at-stop.ensures r;
+    let h = c.requires in
+    let a = c.args in
+    let l = c.loop-g in
+    let t = c.loop-g-test.true in
+    let ei : l.g ≡ suc (l.g - 1) = omega (arith, t) in
+    let eh : l.g - 1 ≡ suc (l.g - 1 - 1) = omega (arith, t) in
+    record {
+      given = record {
+        sound = stop-sound a.plan.now a.streets (l.g - 1) a.work.now (omega (arith, l.invariant.node, t)) h.given h.passable;
+        room = omega (arith, h.given.room, l.invariant.long, l.invariant.node);
+        sources = mark-ranks a.plan.now a.streets a.work.now h.given h.filled l.g (l.g - 1) (l.g - 1 - 1) l.work ei eh l.invariant;
+      };
+      by_index = mark-reached a.plan.now a.streets a.work.now h.given h.filled l.g (l.g - 1) (l.g - 1 - 1) l.work ei eh l.invariant;
     }
 
-pub loop-i-preserved : goal.loop-i-preserved
-loop-i-preserved c =
-    let g = c in
-    let a = g.args in
-    let l = c.loop-i in
-    let t = c.loop-i-test.true in
-    let ei : l.i ≡ suc (l.i - 1) = omega (arith, t) in
-    let eh : l.i - 1 ≡ suc (l.i - 1 - 1) = omega (arith, t) in
-    prunes-step a.kinds.now a.ages.now a.counts.now a.ku a.kl a.work.now g.requires.given g.requires.filled l.i
-    (l.i - 1) (l.i - 1 - 1) l.work ei eh l.invariant c.prune_set.new.work
-    (rw c.stop_at-stop.ensures at c.prune_set.ensures)
+pub loop-g-preserved : goal.loop-g-preserved
+loop-g-preserved c =
+    let h = c.requires in
+    let a = c.args in
+    let l = c.loop-g in
+    let t = c.loop-g-test.true in
+    let ei : l.g ≡ suc (l.g - 1) = omega (arith, t) in
+    let eh : l.g - 1 ≡ suc (l.g - 1 - 1) = omega (arith, t) in
+    prunes-step a.plan.now a.streets a.work.now h.given h.filled l.g (l.g - 1) (l.g - 1 - 1) l.work ei eh l.invariant c.prune_set.new.work
+    c.prune_set.ensures
 
 pub returns : goal.returns
 returns c =
-    let g = c in
-    let a = g.args in
-    let l = c.loop-i in
-    prunes-end a.kinds.now a.ages.now a.counts.now a.ku a.kl a.work.now g.requires.given g.requires.filled l.i
-    l.work c.loop-i-test.false l.invariant
+    let h = c.requires in
+    let l = c.loop-g in
+    prunes-end c.args.plan.now c.args.streets c.args.work.now h.given h.filled l.g l.work (omega (arith, c.loop-g-test.false)) l.invariant

@@ -1,9 +1,6 @@
--- `orders::pass::prune` meets its contract. The loop's invariant: the gaps from that before node i on are pruned.
+-- `orders::pass::prune` meets its contract. The loop's invariant: the gaps from that before node g on are pruned.
 use Rattle.orders.proofs.Pruning.{Prunes}
 use Rattle.orders.proofs.pass.prune.Given as goal
 
-abbrev pub invariant-loop-i : goal.invariant-loop-i
-invariant-loop-i l = Prunes l.kinds l.ages l.counts l.ku l.kl l.initial.work l.i l.work
-
-abbrev pub decreases-loop-i : goal.decreases-loop-i
-decreases-loop-i l = l.i
+abbrev pub invariant-loop-g : goal.invariant-loop-g
+invariant-loop-g l = Prunes l.plan l.streets l.initial.work l.g l.work

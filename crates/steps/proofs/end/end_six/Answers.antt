@@ -4,11 +4,10 @@ use Rattle.steps.proofs.end.end_six.Goals as goal
 
 pub returns : goal.returns
 returns c =
-    let start = c in
-    let g = start.args in
-    let h = start.requires in
+    let g = c.args in
+    let h = c.requires in
     let f = c.six_left-five in
     let p = c.put_five in record {
-      exactly = six-exactly g.work.now g.g f.result p.new.work p.ensures.changed g.stop h.empty f.ensures;
-      bare = six-bare g.work.now g.g f.result p.new.work p.ensures.changed h.empty p.result p.ensures.value;
+      exactly = six-exactly g.work.now g.g f.result p.new.work p.ensures.changed g.stop h.given.empty f.ensures;
+      bare = six-bare g.work.now g.g f.result p.new.work p.ensures.changed h.given.empty p.result p.ensures.value;
     }

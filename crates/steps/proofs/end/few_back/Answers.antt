@@ -6,5 +6,5 @@ pub returns : goal.returns
 returns c =
     let g = c.args in
     let h = c.requires in
-    few-comes g.b g.a h.1 h.2 g.l h.3 c.few_at-z.result c.few_at-z.ensures.bits g.n c.back.result
+    few-comes g.b g.a h.0 h.1 g.l h.2 c.few_at-z.result c.few_at-z.ensures.bits g.n c.back.result
     c.back.ensures

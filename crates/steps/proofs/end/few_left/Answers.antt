@@ -6,5 +6,5 @@ pub returns : goal.returns
 returns c =
     let g = c.args in
     let h = c.requires in
-    few-gone g.b g.a h.tables.1 h.tables.2 g.l h.tables.3 c.few_at-z.result c.few_at-z.ensures.bits g.w c.without.result h.by_index
+    few-gone g.b g.a h.few.0 h.few.1 g.l h.few.2 c.few_at-z.result c.few_at-z.ensures.bits g.w c.without.result h.by_index
     c.without.ensures

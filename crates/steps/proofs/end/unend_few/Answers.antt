@@ -4,12 +4,11 @@ use Rattle.steps.proofs.end.unend_few.Goals as goal
 
 pub returns : goal.returns
 returns c =
-    let start = c in
-    let g = start.args in
-    let h = start.requires in
+    let g = c.args in
+    let h = c.requires in
     let l = c.legal-l in
     let n = c.word-n in
     let z = c.few_back in
     let p = c.keep_word in
-    few-loses g.stop l.result h.sound.0 h.sound.1 l.ensures h.tables.1 g.work.now g.g (marks-below g.stop g.work.now g.g h.sources) n.result z.result
+    few-loses g.stop l.result h.given.sound h.kind l.ensures h.count g.work.now g.g (marks-below g.stop g.work.now g.g h.given.sources) n.result z.result
     (next_word g.work.now g.g 0 n.result n.ensures) z.ensures p.new.work p.ensures

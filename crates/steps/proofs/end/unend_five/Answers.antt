@@ -1,23 +1,26 @@
 -- `steps::end::unend_five` meets its contract: what leads back is kept of the five words.
+use mathlib.Core.Path.{refl}
 use native.Mathlib.Omega.{arith}
+use Rattle.rules.specs.declared.Kind.TheVariants.{E}
+use Rattle.steps.proofs.Hops.{touched-at}
 use Rattle.steps.proofs.EndingSets.{next_word}
 use Rattle.steps.proofs.EndingGaps.{legal-inside, five-loses}
 use Rattle.steps.proofs.end.unend_five.Goals as goal
 
 pub five_back-requires : goal.five_back-requires
 five_back-requires c =
+    let g = c.args in
     let h = c.requires in
     let l = c.legal-l in
-    (h.tables.0, omega (arith, h.sound.0.touched (omega arith) (omega arith)), legal-inside _ _ l.result h.sound.0.upper h.sound.0.lower l.ensures)
+    (omega (arith, touched-at g.stop h.given.sound E h.kind refl), legal-inside _ _ l.result g.stop.streets.upper_few g.stop.streets.lower_few l.ensures)
 
 pub returns : goal.returns
 returns c =
-    let start = c in
-    let g = start.args in
-    let h = start.requires in
+    let g = c.args in
+    let h = c.requires in
     let l = c.legal-l in
     let n = c.word-n in
     let z = c.five_back in
     let p = c.keep_five in
-    five-loses g.stop l.result h.sound.0 h.sound.1 l.ensures h.tables.1 g.work.now g.g z.result n.result p.new.work
-    (next_word g.work.now g.g 0 n.result n.ensures) z.ensures h.sources p.ensures
+    five-loses g.stop l.result h.given.sound h.kind l.ensures h.count g.work.now g.g z.result n.result p.new.work
+    (next_word g.work.now g.g 0 n.result n.ensures) z.ensures h.given.sources p.ensures

@@ -4,10 +4,9 @@ use Rattle.steps.proofs.end.unend_six.Goals as goal
 
 pub returns : goal.returns
 returns c =
-    let start = c in
-    let g = start.args in
-    let h = start.requires in
+    let g = c.args in
+    let h = c.requires in
     let f = c.six_back-five in
     let a = c.keep_five in
     let b = c.keep_five-2 in
-    six-loses g.stop h.tables.1 g.work.now g.g f.result a.new.work b.new.work h.sources f.ensures a.ensures b.ensures
+    six-loses g.stop h.count g.work.now g.g f.result a.new.work b.new.work h.given.sources f.ensures a.ensures b.ensures

@@ -10,7 +10,7 @@ pub loop-k-preserved : goal.loop-k-preserved
 loop-k-preserved c =
     let g = c.args in
     let l = c.loop-k in
-    let w = c.before-w in
+    let w = c.ranks_before-w in
     let p = c.put_word in
     let q = c.put_word-in-loop-k in
     sixth-step g.work.now g.g l.k l.any w.result l.work p.new.work q.new.work l.invariant c.loop-k-test.true
@@ -18,8 +18,7 @@ loop-k-preserved c =
 
 pub returns : goal.returns
 returns c =
-    let g = c in
     let l = c.loop-k in record {
-      opened = sixth-opened g.args.work.now g.args.g g.requires.empty g.requires.by_index l.k l.any l.work (omega (arith, c.loop-k-test.false)) l.invariant;
-      bare = sixth-bare g.args.work.now g.args.g g.requires.empty g.requires.by_index l.k l.any l.work (omega (arith, c.loop-k-test.false)) l.invariant;
+      opened = sixth-opened c.args.work.now c.args.g c.requires.empty c.requires.by_index l.k l.any l.work (omega (arith, c.loop-k-test.false)) l.invariant;
+      bare = sixth-bare c.args.work.now c.args.g c.requires.empty c.requires.by_index l.k l.any l.work (omega (arith, c.loop-k-test.false)) l.invariant;
     }

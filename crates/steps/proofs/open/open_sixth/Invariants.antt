@@ -1,10 +1,6 @@
 -- `steps::open::open_sixth` meets its contract. The loop's invariant: the words passed are copied to both places of the sixth net.
-use Prim.Native.Nat.{◌-◌}
 use Rattle.steps.proofs.OpeningSlots.{Sixth}
 use Rattle.steps.proofs.open.open_sixth.Given as goal
 
 abbrev pub invariant-loop-k : goal.invariant-loop-k
 invariant-loop-k l = Sixth l.initial.work l.g l.k l.work l.any
-
-abbrev pub decreases-loop-k : goal.decreases-loop-k
-decreases-loop-k l = 4 - l.k

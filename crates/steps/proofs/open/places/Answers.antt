@@ -1,8 +1,16 @@
--- `steps::open::places` meets its contract: the table has the bits that it must.
-use Rattle.steps.proofs.OpeningBits.{places-right}
+-- `steps::open::places` meets its contract: antt computes each word of the table.
+use native.Mathlib.Omega.{arith}
+use Rattle.rules.specs.Basic.{pick, every}
+use Rattle.rules.specs.Limits.{limits, met, fits}
+use Rattle.steps.specs.Ranks.{fact}
+use Rattle.steps.specs.Sets.{bit}
+use Rattle.steps.proofs.OpeningBits.{same, placed, placed_at, all_placed, places-right}
+use Rattle.steps.specs.declared.open.TheConstants.{PLACES}
 use Rattle.steps.proofs.open.places.Goals as goal
 
 pub returns : goal.returns
+unfolding same placed placed_at all_placed every fact pick bit fits limits met
 returns c =
-    let g = c in
-    places-right g.args.ku g.args.kl g.args.b g.requires.0 g.requires.1 g.requires.2 c.places_of.result c.places_of.ensures
+    let g = c.args in
+    let k = g.streets in
+    places-right PLACES g.b k.upper k.lower tt (omega (arith, c.requires)) (omega (arith, k.upper_few)) (omega (arith, k.lower_few))

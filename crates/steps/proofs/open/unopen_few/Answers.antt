@@ -9,16 +9,15 @@ use Rattle.steps.proofs.OpeningBack.{few-loses}
 use Rattle.steps.proofs.open.unopen_few.Goals as goal
 
 pub joined-requires : goal.joined-requires
-joined-requires c = omega (arith, c.factorial.ensures.value, fact-few c.args.b c.requires.ku_bound.2)
+joined-requires c = omega (arith, c.factorial.ensures.value, fact-few c.args.b c.requires.b_bound.0)
 
 pub returns : goal.returns
 returns c =
-    let g = c in
     let m = c.places in
     let z = c.joined in
     let f = c.factorial in
-    let p = c.put_word in
-    let n = c.word.ensures ∙ ap (λ (h : ℕ). word_at g.args.work.now h 0) (add-one g.args.g) in
-    few-loses g.args.work.now g.args.g g.args.ku g.args.kl g.args.b m.result f.result z.result g.requires.ku_bound.2
-    f.ensures.value g.requires.by_index m.ensures (rw n at z.ensures) p.new.work
-    (rw c.word-2.ensures at p.ensures)
+    let p = c.keep_word in
+    let n = c.word.ensures ∙ ap (λ (h : ℕ). word_at c.args.work.now h 0) (add-one c.args.g) in
+    few-loses c.args.work.now c.args.g c.args.streets.upper c.args.streets.lower c.args.b m.result f.result z.result c.requires.b_bound.0
+    f.ensures.value c.requires.by_index m.ensures (rw n at z.ensures) p.new.work
+    p.ensures

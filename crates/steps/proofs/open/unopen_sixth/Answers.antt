@@ -5,6 +5,5 @@ use Rattle.steps.proofs.open.unopen_sixth.Goals as goal
 
 pub returns : goal.returns
 returns c =
-    let g = c in
     let l = c.loop-k in
-    sixth-loses g.args.work.now g.args.g l.k l.work (omega (arith, c.loop-k-test.false)) g.requires.by_index l.invariant
+    sixth-loses c.args.work.now c.args.g l.k l.work (omega (arith, c.loop-k-test.false)) c.requires.by_index l.invariant

@@ -7,8 +7,7 @@ use Rattle.steps.proofs.rest.copy_back.Goals as goal
 
 pub loop-k-init : goal.loop-k-init
 loop-k-init c =
-    let g = c in
-    (copy_start g.args.work.now g.args.g g.args.from, omega arith, g.requires.1)
+    (copy_start c.args.work.now c.args.g c.args.from, omega arith, c.requires.1)
 
 pub loop-k-preserved : goal.loop-k-preserved
 loop-k-preserved c =

@@ -8,18 +8,16 @@ use Rattle.steps.proofs.rest.copy_on.Goals as goal
 
 pub loop-k-init : goal.loop-k-init
 loop-k-init c =
-    let g = c in
-    (on-start g.args.work.now g.args.g g.args.from, omega arith, g.requires.g_in_bounds.1)
+    (on-start c.args.work.now c.args.g c.args.from, omega arith, c.requires.g_in_bounds.1)
 
 pub loop-k-preserved : goal.loop-k-preserved
 loop-k-preserved c =
-    let g = c in
-    let a = g.args in
+    let a = c.args in
     let l = c.loop-k in
     let t = c.loop-k-test.true in
-    let w = c.before-w in
+    let w = c.ranks_before-w in
     let p = c.put_word in (
-      on_step a.work.now a.g a.from l.k w.result l.any l.work p.new.work l.invariant.1 (omega (arith, g.requires.g_in_bounds.2, t)) l.invariant.0
+      on_step a.work.now a.g a.from l.k w.result l.any l.work p.new.work l.invariant.1 (omega (arith, c.requires.g_in_bounds.2, t)) l.invariant.0
           w.ensures p.ensures,
       omega (arith, l.invariant.1),
       omega (arith, t),
@@ -27,9 +25,8 @@ loop-k-preserved c =
 
 pub returns : goal.returns
 returns c =
-    let g = c in
-    let a = g.args in
+    let a = c.args in
     let l = c.loop-k in record {
       redone = on-end a.work.now a.g a.from l.k a.to l.any l.work c.loop-k-test.false l.invariant.2 l.invariant.0;
-      bare = sifts-bare a.work.now a.g (source a.work.now a.g) (between a.from l.k) l.work l.any g.requires.empty l.invariant.0;
+      bare = sifts-bare a.work.now a.g (source a.work.now a.g) (between a.from l.k) l.work l.any c.requires.empty l.invariant.0;
     }

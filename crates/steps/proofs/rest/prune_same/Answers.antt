@@ -3,24 +3,24 @@ use native.Mathlib.Omega.{arith}
 use Rattle.steps.proofs.Resting.{copied-few, copied-five, copied-six}
 use Rattle.steps.proofs.rest.prune_same.Goals as goal
 
-pub returns-then-b-lt5 : goal.returns-then-b-lt5
-returns-then-b-lt5 c =
-    let g = c in
-    let a = g.args in
+pub returns-then-stop-lt5 : goal.returns-then-stop-lt5
+returns-then-stop-lt5 c =
+    let a = c.args in
+    let h = c.requires in
     let v = c.copy_back in
-    copied-few a.stop a.work.now a.g v.new.work g.requires.sound.0 g.requires.sound.2 g.requires.sound.3 g.requires.sources g.requires.by_index c.if-b-lt5.true v.ensures
+    copied-few a.stop a.work.now a.g v.new.work h.given.sound h.kind h.given.sources h.by_index (omega (arith, c.if-stop-lt5.true)) v.ensures
 
-pub returns-then-b-eq5 : goal.returns-then-b-eq5
-returns-then-b-eq5 c =
-    let g = c in
-    let a = g.args in
-    let v = c.copy_back-then-b-eq5 in
-    copied-five a.stop a.work.now a.g v.new.work g.requires.sound.0 g.requires.sound.2 g.requires.sound.3 g.requires.sources g.requires.by_index c.if-b-eq5.true v.ensures
+pub returns-then-stop-eq5 : goal.returns-then-stop-eq5
+returns-then-stop-eq5 c =
+    let a = c.args in
+    let h = c.requires in
+    let v = c.copy_back-then-stop-eq5 in
+    copied-five a.stop a.work.now a.g v.new.work h.given.sound h.kind h.given.sources h.by_index (omega (arith, c.if-stop-eq5.true)) v.ensures
 
-pub returns : goal.returns
-returns c =
-    let g = c in
-    let a = g.args in
-    let w = c.copy_back-2 in
-    let v = c.copy_back-3 in
-    copied-six a.stop a.work.now a.g v.new.work g.requires.sound.0 g.requires.sound.2 g.requires.sound.3 g.requires.sources g.requires.by_index (omega (arith, g.requires.sound.0.few, c.if-b-lt5.false, c.if-b-eq5.false)) w.new.work w.ensures v.ensures
+pub returns-else-stop-eq5 : goal.returns-else-stop-eq5
+returns-else-stop-eq5 c =
+    let a = c.args in
+    let h = c.requires in
+    let w = c.copy_back-else-stop-eq5 in
+    let v = c.copy_back-else-stop-eq5-2 in
+    copied-six a.stop a.work.now a.g v.new.work h.given.sound h.kind h.given.sources h.by_index (omega (arith, h.given.sound.few, c.if-stop-lt5.false, c.if-stop-eq5.false)) w.new.work w.ensures v.ensures

@@ -6,11 +6,9 @@ use Rattle.steps.proofs.touch.six_at.Goals as goal
 
 pub returns-then-a-eq0 : goal.returns-then-a-eq0
 returns-then-a-eq0 c =
-    let g = c in
-    youngest-six g.args.a g.args.e g.requires.2 c.if-a-eq0.true
+    youngest-six c.args.a c.args.e c.requires.1 c.if-a-eq0.true
 
 pub returns : goal.returns
 returns c =
-    let g = c in
     let h = c.if-a-eq0.false in
-    older-six g.args.a g.args.e g.requires.2 (g.args.a - 1) c.five_at.result (omega arith) c.five_at.ensures
+    older-six c.args.a c.args.e c.requires.1 (c.args.a - 1) c.five_at.result (omega arith) c.five_at.ensures

@@ -6,6 +6,3 @@ use Rattle.steps.proofs.touch.touch_five.Given as goal
 
 abbrev pub invariant-loop-e : goal.invariant-loop-e
 invariant-loop-e l = Sifts l.initial.work l.g (between 1 l.e) (Five l.a l.l l.initial.work l.g (l.g - 1)) l.work l.any × (1 ≤ l.e) × (l.e ≤ 4)
-
-abbrev pub decreases-loop-e : goal.decreases-loop-e
-decreases-loop-e l = 4 - l.e

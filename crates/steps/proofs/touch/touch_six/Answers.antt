@@ -4,31 +4,30 @@ use native.Mathlib.Omega.{arith}
 use Rattle.steps.proofs.Touching.{Six, paired, sifts-bare, none-exactly, six-start, six-step, six-exactly}
 use Rattle.steps.proofs.touch.touch_six.Goals as goal
 
-pub returns-then-ku-kl-lt6 : goal.returns-then-ku-kl-lt6
-returns-then-ku-kl-lt6 c =
+pub returns-then-stop-lt6 : goal.returns-then-stop-lt6
+returns-then-stop-lt6 c =
     let g = c.args in
     let h = c.requires in record {
-      exactly = none-exactly g.stop g.work.now g.g (g.g - 1) (omega (arith, h.sound.2)) h.sound.0 h.sound.3
-          (omega (arith, c.if-ku-kl-lt6.true, h.tables.1)) h.empty;
-      bare = h.empty;
+      exactly = none-exactly g.stop g.work.now g.g (g.g - 1) (omega (arith, h.behind)) h.given.sound h.kind
+          (omega (arith, c.if-stop-lt6.true, h.count)) h.given.empty;
+      bare = h.given.empty;
     }
 
 pub loop-e-init : goal.loop-e-init
 loop-e-init c =
     let g = c.args in
-    (six-start g.stop.age g.work.now g.g (g.g - 1), omega arith, omega arith)
+    (six-start g.stop.step.age g.work.now g.g (g.g - 1), omega arith, omega arith)
 
 pub loop-e-preserved : goal.loop-e-preserved
 loop-e-preserved c =
-    let g = c in
-    let a = g.args in
+    let a = c.args in
     let l = c.loop-e in
     let t = c.loop-e-test.true in
     let m = c.six_at-m in
     let v = c.sift-any in
     let w = c.sift-any-in-loop-e in (
-      six-step a.stop.age a.work.now a.g (a.g - 1) l.e m.result v.result w.result l.any l.work v.new.work w.new.work
-          (omega (arith, g.requires.sound.2)) l.invariant.1 t l.invariant.0 m.ensures v.ensures.word v.ensures.put w.ensures.word w.ensures.put,
+      six-step a.stop.step.age a.work.now a.g (a.g - 1) l.e m.result v.result w.result l.any l.work v.new.work w.new.work
+          (omega (arith, c.requires.behind)) l.invariant.1 t l.invariant.0 m.ensures v.ensures.word v.ensures.put w.ensures.word w.ensures.put,
       omega arith,
       omega (arith, t),
     )
@@ -39,7 +38,7 @@ returns c =
     let h = c.requires in
     let l = c.loop-e in
     let s = g.work.now in record {
-      exactly = six-exactly g.stop s g.g (g.g - 1) (omega (arith, h.sound.2)) h.sound.0 h.sound.3 h.empty h.sources l.e l.any l.work
-          h.tables.1 c.if-ku-kl-lt6.false c.loop-e-test.false l.invariant.2 l.invariant.0;
-      bare = sifts-bare s g.g (Six g.stop.age s g.g (g.g - 1)) (paired l.e) l.work l.any h.empty l.invariant.0;
+      exactly = six-exactly g.stop s g.g (g.g - 1) (omega (arith, h.behind)) h.given.sound h.kind h.given.empty h.given.sources l.e l.any l.work
+          h.count c.if-stop-lt6.false c.loop-e-test.false l.invariant.2 l.invariant.0;
+      bare = sifts-bare s g.g (Six g.stop.step.age s g.g (g.g - 1)) (paired l.e) l.work l.any h.given.empty l.invariant.0;
     }

@@ -5,6 +5,3 @@ use Rattle.steps.proofs.touch.touch_six.Given as goal
 
 abbrev pub invariant-loop-e : goal.invariant-loop-e
 invariant-loop-e l = Sifts l.initial.work l.g (paired l.e) (Six l.a l.initial.work l.g (l.g - 1)) l.work l.any × (1 ≤ l.e) × (l.e ≤ 4)
-
-abbrev pub decreases-loop-e : goal.decreases-loop-e
-decreases-loop-e l = 4 - l.e

@@ -1,6 +1,9 @@
 -- `steps::word::put_word` meets its contract: four bytes are stored in a row.
+use native.Mathlib.Omega.{arith}
 use Rattle.steps.proofs.Words.{word-written}
 use Rattle.steps.proofs.word.put_word.Goals as goal
 
 pub returns : goal.returns
-returns c = word-written c.args.work.now c.args.g c.args.k c.args.w c.requires.0 c.requires.1
+returns c =
+    let g = c.args in
+    word-written g.work.now g.g g.k g.w c.to_le_bytes.result c.requires.0 c.requires.1 (omega (arith, c.ranges.w.fits)) c.to_le_bytes.ensures

@@ -1,0 +1,10 @@
+-- `steps::tables::Tables::back` meets its contract: the table's word is the preimage.
+use Rattle.steps.specs.Four.{left_of}
+use Rattle.steps.proofs.FourSets.{pulled}
+use Rattle.steps.proofs.tables.Tables.back.Goals as goal
+
+pub returns : goal.returns
+returns c =
+    let g = c.args in
+    let h = c.requires in
+    pulled (left_of g.e) g.y _ (g.self.right.back g.e g.y h.0 h.1)

@@ -1,0 +1,10 @@
+-- `steps::tables::Tables::standing` meets its contract: the table's word is the preimage.
+use Rattle.steps.specs.Four.{place_of}
+use Rattle.steps.proofs.FourSets.{pulled}
+use Rattle.steps.proofs.tables.Tables.standing.Goals as goal
+
+pub returns : goal.returns
+returns c =
+    let g = c.args in
+    let h = c.requires in
+    pulled (place_of g.e) g.places _ (g.self.right.stand g.e g.places h.0 h.1)
