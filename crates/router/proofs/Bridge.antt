@@ -13,18 +13,21 @@ use lib.Seq.{take_all, take-length, take-take}
 use lib.Dec.{eqb, eqb-suc-suc}
 use borrow.Author.Tests.{eqb-true, eqb-false}
 use Rattle.rules.specs.Basic.{put, cut, keep, and_then}
-use Rattle.rules.specs.Row.{before, lone, Kind, B, M, E, N, Node, node, nodes}
+use Rattle.rules.specs.declared.Kind.{Kind}
+use Rattle.rules.specs.declared.Kind.TheVariants.{B, M, E, N}
+use Rattle.rules.specs.Row.{before, lone, Node, node, nodes}
 use Rattle.rules.specs.Street.{fits, last, limits_at, fits_at, counted, stands, next, kind, step as street_step, run, Placing, Earlier, IsFirst, Passes, StopsAt}
-use Rattle.rules.specs.Sheet.{code, kind_in}
 use Rattle.rules.specs.Judgement.{left}
 use Rattle.rules.proofs.Lists.{length_cut}
 use Rattle.rules.proofs.Fits.{Fits, fits→}
 use Rattle.rules.proofs.Pins.{at_before}
 use Rattle.rules.proofs.Open.{times, times_cut, one, one-other, onto, ends-empty}
-use Rattle.rules.proofs.Legal.{New, Own, kind_in-code}
+use Rattle.rules.proofs.Legal.{New, Own}
 use Rattle.rules.proofs.Accepted.{nodes-own}
 use Rattle.rules.proofs.Failing.{passes-take}
-use Rattle.steps.specs.Plan.{Step, step, young, age, Steps, Tells}
+use Rattle.std.specs.Prelude.{IsTrue}
+use Rattle.steps.specs.declared.plan.Step.{Step}
+use Rattle.steps.specs.Plan.{step, touches, young, age, Steps, Tells}
 use Rattle.steps.specs.Ranks.{fact, order_of, at_of, less_of, hop_of, hops}
 use Rattle.steps.proofs.Hops.{hop-made}
 use Rattle.steps.proofs.Ranks.{Distinct, order-length, order-put, order-at, order-less}
@@ -34,7 +37,7 @@ module _ (ku kl : ℕ) where
   abbrev Agree : Node → List ℕ → (r p : ℕ) → Type 0
   Agree n o r p =
       street_step ku kl n (order_of o r) (suc p)
-      ≡ Option.map (order_of (young n o)) (hop_of ku kl (step (code (kind n)) (age n o) (length o)) r p)
+      ≡ Option.map (order_of (young n o)) (hop_of ku kl (step (kind n) (age n o) (length o)) r p)
 
   kept : {A C : Type 0} (f : A → C) (t t' : Bool) (a : A) (c : C) → t ≡ t' → (t ≡ true → c ≡ f a) → keep t c ≡ Option.map f (keep t' a)
   unfolding keep
@@ -42,7 +45,7 @@ module _ (ku kl : ℕ) where
   kept f false t' a c e h = rw (← e)
 
   begin-agrees : (x : ℕ) (o : List ℕ) (r p : ℕ) → r < fact (length o) → Agree (node B x) o r p
-  unfolding street_step stands next kind counted fits fits_at last limits_at young age code hop_of
+  unfolding street_step stands next kind counted fits fits_at last limits_at young age hop_of
   begin-agrees x o r p h =
       kept (order_of (x ∷ o)) (fits ku kl (suc p) (suc (length (order_of o r)))) (fits ku kl (suc p) (suc (length o))) (p * fact (length o) + r)
       (put (suc p - 1) x (order_of o r)) (ap (λ b. fits ku kl (suc p) (suc b)) (order-length o r))
@@ -63,13 +66,13 @@ module _ (ku kl : ℕ) where
       (eqb-suc-suc p (before x (order_of o r)) ∙ ap (eqb p) (stands_at x o r h d f)) (order-length o r)
 
   meet-agrees : (x : ℕ) (o : List ℕ) (r p : ℕ) → before x o < length o → Distinct o → r < fact (length o) → Agree (node M x) o r p
-  unfolding street_step stands next kind counted fits fits_at last limits_at young age code hop_of
+  unfolding street_step stands next kind counted fits fits_at last limits_at young age hop_of
   meet-agrees x o r p h d f =
       kept (order_of o) (eqb (suc p) (suc (before x (order_of o r))) && fits ku kl (suc p) (length (order_of o r)))
       (eqb p (at_of (before x o) (length o) r) && fits ku kl (suc p) (length o)) r (order_of o r) (touch x o r p h d f) (λ t. refl)
 
   end-agrees : (x : ℕ) (o : List ℕ) (r p : ℕ) → before x o < length o → Distinct o → r < fact (length o) → Agree (node E x) o r p
-  unfolding street_step stands next kind counted fits fits_at last limits_at young age code hop_of
+  unfolding street_step stands next kind counted fits fits_at last limits_at young age hop_of
   end-agrees x o r p h d f =
       kept (order_of (cut (before x o) o)) (eqb (suc p) (suc (before x (order_of o r))) && fits ku kl (suc p) (length (order_of o r)))
       (eqb p (at_of (before x o) (length o) r) && fits ku kl (suc p) (length o)) (less_of (before x o) (length o) r) (cut (suc p - 1) (order_of o r))
@@ -88,7 +91,7 @@ module _ (ku kl : ℕ) where
           ap (λ i. cut i (order_of o r)) k ∙ sym (order-less o (before x o) r h f)
 
   rest-agrees : (x : ℕ) (o : List ℕ) (r p : ℕ) → Agree (node N x) o r p
-  unfolding street_step stands next kind counted young age code hop_of
+  unfolding street_step stands next kind counted young age hop_of
   rest-agrees x o r p =
       kept (order_of o) (fits_at N ku kl (suc p) (length (order_of o r))) (fits_at N ku kl (suc p) (length o)) r (order_of o r)
       (ap (fits_at N ku kl (suc p)) (order-length o r)) (λ t. refl)
@@ -107,17 +110,18 @@ net : Node → ℕ
 net (node k x) = x
 
 -- what steps say of their first
-record First (b k a c : ℕ) (ss : List Step) : Type 0 where
-  touched : 0 < k → k < 3 → a < c
+record First (b : ℕ) (k : Kind) (a c : ℕ) (ss : List Step) : Type 0 where
+  touched : IsTrue (touches k) → a < c
   count : c ≡ b
-  rest : ((k ≡ 0) × (b ≡ 6)) ⊎ Steps (left (kind_in k) b) ss
+  rest : ((k ≡ B) × (b ≡ 6)) ⊎ Steps (left k b) ss
 
-steps_first : {b k a c : ℕ} {ss : List Step} → Steps b (step k a c ∷ ss) → First b k a c ss
-unfolding left kind_in
-steps_first Steps.full = record { touched = λ t u. absurd (omega arith); count = refl; rest = inl (refl, refl) }
-steps_first (Steps.begins h s) = record { touched = λ t u. absurd (omega arith); count = refl; rest = inr s }
-steps_first (Steps.meet h l t b s) = record { touched = λ z u. t; count = refl; rest = inr s }
-steps_first (Steps.rests b s) = record { touched = λ t u. absurd (omega arith); count = refl; rest = inr s }
+steps_first : {b : ℕ} {k : Kind} {a c : ℕ} {ss : List Step} → Steps b (step k a c ∷ ss) → First b k a c ss
+unfolding left
+steps_first Steps.full = record { touched = λ t. absurd (cc); count = refl; rest = inl (refl, refl) }
+steps_first (Steps.begins h s) = record { touched = λ t. absurd (cc); count = refl; rest = inr s }
+steps_first (Steps.meets l b s) = record { touched = λ t. l; count = refl; rest = inr s }
+steps_first (Steps.ends l b s) = record { touched = λ t. l; count = refl; rest = inr s }
+steps_first (Steps.rests b s) = record { touched = λ t. absurd (cc); count = refl; rest = inr s }
 
 one-le : (t : Bool) → one t ≤ 1
 unfolding one
@@ -126,8 +130,8 @@ one-le false = omega arith
 
 -- the open nets one node on
 began-next : (i : ℕ) (k : Kind) (x : ℕ) (o : List ℕ) → (New k → x ≡ i) → Began i o
-    → (0 < code k → code k < 3 → before x o < length o) → Began (suc i) (young (node k x) o)
-unfolding young code times
+    → (IsTrue (touches k) → before x o < length o) → Began (suc i) (young (node k x) o)
+unfolding young times
 began-next i B x o own b t =
     record {
       once = λ y. once y (eqb x y) refl (eq-zero-or-pos (times y o));
@@ -146,7 +150,7 @@ began-next i B x o own b t =
     past y false q h = let z : one (eqb x y) ≡ 0 = one-other y x (eqb-false x y q) in omega (arith, b.past y (omega arith))
 began-next i M x o own b t = record { once = b.once; past = λ y h. omega (arith, b.past y h) }
 began-next i E x o own b t =
-    let l : before x o < length o = t (omega arith) (omega arith) in
+    let l : before x o < length o = t refl in
     record {
       once = λ y. omega (arith, times_cut y (before x o) o l, b.once y);
       past = λ y h. omega (arith, b.past y (omega (arith, times_cut y (before x o) o l)));
@@ -157,33 +161,26 @@ own-parts : {i : ℕ} {n : Node} {ns : List Node} → Own i (n ∷ ns) → (New 
 unfolding kind net
 own-parts (Own.cons h w) = (h, w)
 
-began-node : (i : ℕ) (n : Node) (o : List ℕ) → (New (kind n) → net n ≡ i) → Began i o → (0 < code (kind n) → code (kind n) < 3 → age n o < length o) → Began (suc i) (young n o)
-unfolding kind net age code
-began-node i (node B x) o own b t = began-next i B x o own b (λ z u. absurd (omega arith))
-began-node i (node M x) o own b t = began-next i M x o own b (λ z u. t (omega arith) (omega arith))
-began-node i (node E x) o own b t = began-next i E x o own b (λ z u. t (omega arith) (omega arith))
-began-node i (node N x) o own b t = began-next i N x o own b (λ z u. absurd (omega arith))
-
-code-zero : (k : Kind) → code k ≡ 0 → k ≡ B
-unfolding code
-code-zero B e = refl
-code-zero M e = absurd (omega arith)
-code-zero E e = absurd (omega arith)
-code-zero N e = absurd (omega arith)
+began-node : (i : ℕ) (n : Node) (o : List ℕ) → (New (kind n) → net n ≡ i) → Began i o → (IsTrue (touches (kind n)) → age n o < length o) → Began (suc i) (young n o)
+unfolding kind net age
+began-node i (node B x) o own b t = began-next i B x o own b (λ z. absurd (cc))
+began-node i (node M x) o own b t = began-next i M x o own b t
+began-node i (node E x) o own b t = began-next i E x o own b t
+began-node i (node N x) o own b t = began-next i N x o own b (λ z. absurd (cc))
 
 module _ (ku kl : ℕ) (hu : ku ≤ 3) (hl : kl ≤ 3) where
-  agrees : (n : Node) (o : List ℕ) (r p : ℕ) → (0 < code (kind n) → code (kind n) < 3 → age n o < length o) → Distinct o → r < fact (length o) → Agree ku kl n o r p
-  unfolding code kind age
+  agrees : (n : Node) (o : List ℕ) (r p : ℕ) → (IsTrue (touches (kind n)) → age n o < length o) → Distinct o → r < fact (length o) → Agree ku kl n o r p
+  unfolding kind age
   agrees (node B x) o r p t d h = begin-agrees ku kl x o r p h
-  agrees (node M x) o r p t d h = meet-agrees ku kl x o r p (t (omega arith) (omega arith)) d h
-  agrees (node E x) o r p t d h = end-agrees ku kl x o r p (t (omega arith) (omega arith)) d h
+  agrees (node M x) o r p t d h = meet-agrees ku kl x o r p (t refl) d h
+  agrees (node E x) o r p t d h = end-agrees ku kl x o r p (t refl) d h
   agrees (node N x) o r p t d h = rest-agrees ku kl x o r p
 
-  length-young : (n : Node) (o : List ℕ) → (0 < code (kind n) → code (kind n) < 3 → age n o < length o) → length (young n o) ≡ left (kind n) (length o)
-  unfolding young left kind code age
+  length-young : (n : Node) (o : List ℕ) → (IsTrue (touches (kind n)) → age n o < length o) → length (young n o) ≡ left (kind n) (length o)
+  unfolding young left kind age
   length-young (node B x) o t = refl
   length-young (node M x) o t = refl
-  length-young (node E x) o t = omega (arith, length_cut (before x o) o (t (omega arith) (omega arith)))
+  length-young (node E x) o t = omega (arith, length_cut (before x o) o (t refl))
   length-young (node N x) o t = refl
 
   -- a B that finds six nets open gets past no order
@@ -197,7 +194,7 @@ module _ (ku kl : ℕ) (hu : ku ≤ 3) (hl : kl ≤ 3) where
           absurd (omega (arith, f.sum, order-length o r))
       go false q = refl
 
-  full-stays : (a r p : ℕ) → hop_of ku kl (step 0 a 6) r p ≡ none
+  full-stays : (a r p : ℕ) → hop_of ku kl (step B a 6) r p ≡ none
   unfolding hop_of keep
   full-stays a r p = go (fits ku kl (suc p) 7) refl
     where
@@ -206,12 +203,12 @@ module _ (ku kl : ℕ) (hu : ku ≤ 3) (hl : kl ≤ 3) where
       go false q = refl
 
   -- the steps after the first, which is not a B that finds six open
-  more-steps : (n : Node) (o : List ℕ) (ss : List Step) → (kind n ≡ B → length o < 6) → First (length o) (code (kind n)) (age n o) (length o) ss → Steps (length (young n o)) ss
+  more-steps : (n : Node) (o : List ℕ) (ss : List Step) → (kind n ≡ B → length o < 6) → First (length o) (kind n) (age n o) (length o) ss → Steps (length (young n o)) ss
   more-steps n o ss e f = go f.rest
     where
-      go : ((code (kind n) ≡ 0) × (length o ≡ 6)) ⊎ Steps (left (kind_in (code (kind n))) (length o)) ss → Steps (length (young n o)) ss
-      go (inl q) = absurd (omega (arith, e (code-zero (kind n) q.0), q.1))
-      go (inr s) = rw (length-young n o f.touched, ← kind_in-code (kind n)) s
+      go : ((kind n ≡ B) × (length o ≡ 6)) ⊎ Steps (left (kind n) (length o)) ss → Steps (length (young n o)) ss
+      go (inl q) = absurd (omega (arith, e q.0, q.1))
+      go (inr s) = rw (length-young n o f.touched) s
 
   -- a run of the first j nodes is a run of the first j steps
   pub run-hops : (j i : ℕ) {ns : List Node} {o : List ℕ} {ss : List Step} → Tells ns o ss → Steps (length o) ss → Own i ns → Began i o → (r : ℕ) → r < fact (length o)
@@ -229,16 +226,16 @@ module _ (ku kl : ℕ) (hu : ku ≤ 3) (hl : kl ≤ 3) where
       let u = own-parts w in
       let s' : Steps (length (young n o)) ss = more-steps n o ss e f in
       rw (agrees n o r p f.touched b.once h)
-      (go (hop_of ku kl (step (code (kind n)) (age n o) (length o)) r p) refl
+      (go (hop_of ku kl (step (kind n) (age n o) (length o)) r p) refl
       (λ y hy. run-hops j (suc i) t s' u.1 (began-node i n o u.0 b f.touched) y hy ps))
     where
-      below : (y : ℕ) → hop_of ku kl (step (code (kind n)) (age n o) (length o)) r p ≡ some y → y < fact (length (young n o))
+      below : (y : ℕ) → hop_of ku kl (step (kind n) (age n o) (length o)) r p ≡ some y → y < fact (length (young n o))
       below y q =
           let f = steps_first s in
-          rw (length-young n o f.touched, ← kind_in-code (kind n))
-          ((hop-made ku kl (code (kind n)) (age n o) (length o) r p y q).lands f.touched h)
+          rw (length-young n o f.touched)
+          ((hop-made ku kl (kind n) (age n o) (length o) r p y q).lands f.touched h)
 
-      go : (x : Option ℕ) → hop_of ku kl (step (code (kind n)) (age n o) (length o)) r p ≡ x
+      go : (x : Option ℕ) → hop_of ku kl (step (kind n) (age n o) (length o)) r p ≡ x
           → ((y : ℕ) → y < fact (length (young n o))
           → run ku kl (take j ns) (order_of (young n o) y) (map suc ps) ≡ Option.map (order_of (youngs (take j ns) (young n o))) (hops ku kl (take j ss) y ps))
           → and_then (Option.map (order_of (young n o)) x) (λ o'. run ku kl (take j ns) o' (map suc ps))

@@ -11,21 +11,23 @@ use lib.ListN.{length, get_or, take, length-map, get_or-map}
 use lib.Seq.{take-suc}
 use lib.Dec.{T, eqb→eq}
 use Rattle.rules.specs.Basic.{and_then}
-use Rattle.rules.specs.Row.{before, home, lone, Kind, B, M, E, N, Node, node, node_at, nodes}
+use Rattle.rules.specs.declared.Kind.{Kind}
+use Rattle.rules.specs.declared.Kind.TheVariants.{B, M, E, N}
+use Rattle.rules.specs.Row.{before, home, lone, Node, node, node_at, nodes}
 use Rattle.rules.specs.Street.{last, counted, stands, next, kind, run}
-use Rattle.rules.specs.Sheet.{code}
 use Rattle.rules.proofs.Runs.{runs-length, run-append, at-ends}
 use Rattle.rules.proofs.Pins.{before-found, get_d_tabulate}
 use Rattle.rules.proofs.Open.{Onto, onto}
 use Rattle.rules.proofs.Renamed.{Only, before-map, next_map, home-only}
 use Rattle.rules.proofs.Accepted.{length-nodes}
-use Rattle.street.specs.declared.Order.{Order}
-use Rattle.street.specs.Order.{listed, Sound, Emptied}
-use Rattle.street.proofs.Orders.{length-listed}
-use Rattle.steps.specs.Plan.{Step, step, Steps, Tells}
+use Rattle.std.specs.Prelude.{IsTrue}
+use Rattle.steps.specs.declared.plan.Step.{Step}
+use Rattle.steps.specs.Plan.{touches, Steps, Tells}
+use Rattle.orders.proofs.Nodes.{none}
 use Rattle.steps.specs.Ranks.{order_of, hop_of, hops}
 use Rattle.orders.proofs.Ways.{hops-start, hop-last}
 use Rattle.script.proofs.Touched.{by_home}
+use Rattle.script.specs.Told.{kinds}
 use Rattle.router.specs.Walk.{Placed}
 use Rattle.router.proofs.Bridge.{youngs, runs-as-hops, length-told}
 
@@ -34,52 +36,47 @@ abbrev home_in : List ℕ → ℕ → ℕ
 home_in row x = before x row
 
 -- after i nodes: some positions lead to rank r, and in the street to the order that is held
-pub record Holding (ku kl : ℕ) (row : List ℕ) (ss : List Step) (held : Order) (i r : ℕ) : Type 0 where
+pub record Holding (ku kl : ℕ) (row : List ℕ) (ss : List Step) (held : List ℕ) (i r : ℕ) : Type 0 where
   pub ps : List ℕ
   pub hopped : hops ku kl (take i ss) 0 ps ≡ some r
-  pub runs : run ku kl (take i (nodes row)) [] (map suc ps) ≡ some (map (home_in row) (listed held))
-  pub sound : Sound held
+  pub runs : run ku kl (take i (nodes row)) [] (map suc ps) ≡ some (map (home_in row) held)
 
 -- the kind of node i
 abbrev pub kind_at : List ℕ → ℕ → Kind
 kind_at row i = kind (node_at row i)
 
 -- a net that is touched stands where the order has it
-touched : (k : Kind) (y p : ℕ) (o : List ℕ) → 0 < code k → code k < 3 → T (stands (node k y) o (suc p)) → suc p ≤ last k (counted k (length o))
+touched : (k : Kind) (y p : ℕ) (o : List ℕ) → IsTrue (touches k) → T (stands (node k y) o (suc p)) → suc p ≤ last k (counted k (length o))
     → (p ≡ before y o) × (suc p ≤ length o)
-unfolding code stands last counted
-touched B y p o h l t b = absurd (omega arith)
-touched M y p o h l t b = (suc_inj (eqb→eq (suc p) (suc (before y o)) t), b)
-touched E y p o h l t b = (suc_inj (eqb→eq (suc p) (suc (before y o)) t), b)
-touched N y p o h l t b = absurd (omega arith)
+unfolding stands last counted
+touched B y p o h t b = absurd (cc)
+touched M y p o h t b = (suc_inj (eqb→eq (suc p) (suc (before y o)) t), b)
+touched E y p o h t b = (suc_inj (eqb→eq (suc p) (suc (before y o)) t), b)
+touched N y p o h t b = absurd (cc)
 
 -- a net that begins is counted, and has a position for each
-opened : (k : Kind) (b : ℕ) → code k ≡ 0 → (counted k b ≡ suc b) × (last k (counted k b) ≡ suc b)
-unfolding code last counted
-opened B b e = (refl, refl)
-opened M b e = absurd (omega arith)
-opened E b e = absurd (omega arith)
-opened N b e = absurd (omega arith)
+opened : (k : Kind) (b : ℕ) → k ≡ B → (counted k b ≡ suc b) × (last k (counted k b) ≡ suc b)
+unfolding last counted
+opened k b e = rw e (refl, refl)
 
-pub kind-told : (row kinds : List ℕ) (i : ℕ) → i < length row → kinds ≡ map (λ (n : Node). code (kind n)) (nodes row) → get_or kinds i 0 ≡ code (kind_at row i)
-unfolding nodes code kind
-kind-told row kinds i h told =
-    ap (λ l. get_or l i 0) told
-    ∙ get_or-map (λ (n : Node). code (kind n)) (nodes row) i (node B 0)
-    ∙ ap (λ n. code (kind n)) (get_d_tabulate (node_at row) (length row) i (node B 0) h)
+-- the kind of node i, where steps have the kinds of the nodes
+pub kind-told : (row : List ℕ) (ss : List Step) (i : ℕ) → i < length row → kinds ss ≡ map kind (nodes row) → (get_or ss i none).kind ≡ kind_at row i
+unfolding nodes kind
+kind-told row ss i h told =
+    sym (get_or-map (λ (s : Step). s.kind) ss i none)
+    ∙ ap (λ (l : List Kind). get_or l i B) told
+    ∙ get_or-map kind (nodes row) i (node B 0)
+    ∙ ap kind (get_d_tabulate (node_at row) (length row) i (node B 0) h)
 
 module _ (ku kl : ℕ) (hu : ku ≤ 3) (hl : kl ≤ 3) (row : List ℕ) (whole : (i : ℕ) → i < length row → lone row i ≡ false) {ss : List Step}
     (tells : Tells (nodes row) [] ss) (plan : Steps 0 ss) where
-  abbrev blank : Step
-  blank = step 0 0 0
-
-  pub holding-none : (held : Order) → Emptied held → Holding ku kl row ss held 0 0
+  pub holding-none : (held : List ℕ) → held ≡ [] → Holding ku kl row ss held 0 0
   unfolding run
   holding-none held e =
-      record { ps = []; hopped = hops-start ku kl 0; runs = rw e.list; sound = e.sound }
+      record { ps = []; hopped = hops-start ku kl 0; runs = rw e }
 
-  module _ {held : Order} (i r : ℕ) (w : Holding ku kl row ss held i r) (h : i < length row) (p y : ℕ)
-      (hop : hop_of ku kl (get_or ss i blank) r p ≡ some y) where
+  module _ {held : List ℕ} (i r : ℕ) (w : Holding ku kl row ss held i r) (h : i < length row) (p y : ℕ)
+      (hop : hop_of ku kl (get_or ss i none) r p ≡ some y) where
     abbrev x : ℕ
     x = get_or row i 0
 
@@ -90,12 +87,12 @@ module _ (ku kl : ℕ) (hu : ku ≤ 3) (hl : kl ≤ 3) (row : List ℕ) (whole :
     k = kind_at row i
 
     abbrev o : List ℕ
-    o = map (home_in row) (listed held)
+    o = map (home_in row) held
 
     hopped : hops ku kl (take (suc i) ss) 0 (w.ps ++ (p ∷ [])) ≡ some y
     hopped =
-        rw (take-suc ss i blank (omega (arith, length-told ku kl hu hl row whole tells plan tells, length-nodes row)))
-        (hop-last ku kl (take i ss) (get_or ss i blank) 0 y r p w.ps w.hopped hop)
+        rw (take-suc ss i none (omega (arith, length-told ku kl hu hl row whole tells plan tells, length-nodes row)))
+        (hop-last ku kl (take i ss) (get_or ss i none) 0 y r p w.ps w.hopped hop)
 
     after : List ℕ
     after = order_of (youngs (take (suc i) (nodes row)) []) y
@@ -127,10 +124,10 @@ module _ (ku kl : ℕ) (hu : ku ≤ 3) (hl : kl ≤ 3) (row : List ℕ) (whole :
     only : Only (home_in row) x
     only = home-only row x (omega (arith, before-found row i h))
 
-    length_o : length o ≡ held.count
-    length_o = length-map (listed held) (home_in row) ∙ length-listed held w.sound
+    length_o : length o ≡ length held
+    length_o = length-map held (home_in row)
 
-    pub holding-placed : Placed held (code k) x p
+    pub holding-placed : Placed held k x p
     unfolding home stands
     holding-placed =
         let a = at_i in
@@ -139,9 +136,9 @@ module _ (ku kl : ℕ) (hu : ku ≤ 3) (hl : kl ≤ 3) (row : List ℕ) (whole :
             omega (arith, a.fitted.sum, opened k (length o) z, length_o, hu, hl),
             omega (arith, a.fitted.high, opened k (length o) z, length_o),
           );
-          stands = λ t u.
-              let s = touched k (home_in row x) p o t u (rw (by_home (λ m. stands m o (suc p)) (λ y z. refl) row i) at a.stood) a.fitted.high in
-              (s.0 ∙ before-map (home_in row) x only (listed held), omega (arith, s.1, length_o));
+          stands = λ t.
+              let s = touched k (home_in row x) p o t (rw (by_home (λ m. stands m o (suc p)) (λ y z. refl) row i) at a.stood) a.fitted.high in
+              (s.0 ∙ before-map (home_in row) x only held, omega (arith, s.1, length_o));
         }
 
     same-order : next n o (suc p) ≡ after
@@ -152,15 +149,14 @@ module _ (ku kl : ℕ) (hu : ku ≤ 3) (hl : kl ≤ 3) (row : List ℕ) (whole :
     unfolding home next
     next-home = by_home (λ m. next m o (suc p)) (λ y z. refl) row i
 
-    pub holding-more : (next-held : Order) → Sound next-held → listed next-held ≡ next (node k x) (listed held) (suc p)
+    pub holding-more : (next-held : List ℕ) → next-held ≡ next (node k x) held (suc p)
         → Holding ku kl row ss next-held (suc i) y
-    holding-more next-held s e =
+    holding-more next-held e =
         record {
           ps = w.ps ++ (p ∷ []);
           hopped = hopped;
           runs =
               ap₂ (λ ns qs. run ku kl ns [] qs) node-i (map-append suc w.ps (p ∷ [])) ∙ runs_on
               ∙ ap some
-              (sym same-order ∙ next-home ∙ next_map (home_in row) x only k (listed held) (suc p) ∙ ap (map (home_in row)) (sym e));
-          sound = s;
+              (sym same-order ∙ next-home ∙ next_map (home_in row) x only k held (suc p) ∙ ap (map (home_in row)) (sym e));
         }

@@ -7,10 +7,11 @@ use native.Mathlib.Omega.{arith}
 use Rattle.rules.specs.Basic.{put, cut}
 use Rattle.rules.specs.Row.{before}
 use Rattle.rules.specs.Street.{next}
-use Rattle.rules.specs.Sheet.{kind_in}
-use Rattle.street.specs.declared.Order.{Order}
-use Rattle.street.specs.Order.{capacity, listed, Sound}
-use Rattle.steps.specs.declared.rank.Stop.{Stop}
+use Rattle.std.specs.Prelude.{IsTrue, length}
+use Rattle.rules.specs.declared.Kind.TheVariants.{B, M, E, N}
+use Rattle.street.specs.Order.{capacity}
+use Rattle.steps.specs.declared.plan.Stop.{Stop}
+use Rattle.steps.specs.Plan.{touches}
 use Rattle.steps.specs.Ranks.{at_of, less_of}
 use Rattle.steps.specs.Sets.{marked}
 use Rattle.orders.specs.Passes.{Entry}
@@ -22,62 +23,57 @@ use Rattle.router.specs.Walk.{Standing, Stood}
 less : (p : ℕ) → suc p - 1 ≡ p
 less p = omega arith
 
-module _ (held : Order) (t : Stop) (work : List ℕ) (g r x : ℕ) (w : Standing held t work g r x) where
+module _ (held : List ℕ) (t : Stop) (work : List ℕ) (g r x : ℕ) (w : Standing held t work g r x) where
   -- a new net
-  module _ (begins : t.kind ≡ 0) (p y : ℕ) (e : Entry (marked work g) t.count r p y) where
+  module _ (begins : t.step.kind ≡ B) (p y : ℕ) (e : Entry (marked work g) t.step.count r p y) where
     entered : Least t work g r p y
     entered = enters t work g r w.stop begins w.rank w.led p y e
 
-    pub entered-room : (held.count < capacity) × (p < suc held.count)
+    pub entered-room : (length held < capacity) × (p < suc (length held))
     entered-room = let o = (w.placed p y entered.lands.lands).opens begins in (o.0, omega (arith, o.1))
 
-    pub entered-stood : (after : Order) → Sound after → listed after ≡ put p x (listed held) → Stood held t work g r x p y after
-    unfolding kind_in next
-    entered-stood after s l =
-        record { least = entered; sound = s; list = rw begins (l ∙ ap (λ (k : ℕ). put k x (listed held)) (sym (less p))) }
+    pub entered-stood : (after : List ℕ) → after ≡ put p x held → Stood held t work g r x p y after
+    unfolding next
+    entered-stood after l =
+        record { least = entered; list = rw begins (l ∙ ap (λ (k : ℕ). put k x held) (sym (less p))) }
 
   -- a touched net
-  module _ (touched : 0 < t.kind) (known : t.kind < 3) where
-    stands : (w.onward.leads.at ≡ before x (listed held)) × (w.onward.leads.at < held.count)
-    stands = (w.placed w.onward.leads.at w.onward.next w.onward.leads.lands).stands touched known
+  module _ (touched : IsTrue (touches t.step.kind)) where
+    stands : (w.onward.leads.at ≡ before x held) × (w.onward.leads.at < length held)
+    stands = (w.placed w.onward.leads.at w.onward.next w.onward.leads.lands).stands touched
 
-    pub touched-open : before x (listed held) < held.count
+    pub touched-open : before x held < length held
     touched-open = omega (arith, stands.0, stands.1)
 
     -- the rank has the net where the order has it
-    pub located-found : {p : ℕ} → p ≡ at_of t.age t.count r → p ≡ before x (listed held)
-    located-found e = e ∙ sym (leads-at t work g r w.stop touched known w.rank w.onward) ∙ stands.0
+    pub located-found : {p : ℕ} → p ≡ at_of t.step.age t.step.count r → p ≡ before x held
+    located-found e = e ∙ sym (leads-at t work g r w.stop touched w.rank w.onward) ∙ stands.0
 
-    pub located-within : {p : ℕ} → p ≡ at_of t.age t.count r → p < held.count
+    pub located-within : {p : ℕ} → p ≡ at_of t.step.age t.step.count r → p < length held
     located-within e = omega (arith, located-found e, touched-open)
 
-    module _ (p : ℕ) (found : p ≡ before x (listed held)) where
+    module _ (p : ℕ) (found : p ≡ before x held) where
       at-found : p ≡ w.onward.leads.at
       at-found = found ∙ sym stands.0
 
-      pub met-stood : t.kind ≡ 1 → Stood held t work g r x p r held
-      unfolding kind_in next
+      pub met-stood : t.step.kind ≡ M → Stood held t work g r x p r held
+      unfolding next
       met-stood e =
           record {
-            least = stays t work g r w.stop touched known w.rank w.onward p r at-found (after-touch t.kind t.age t.count r e);
-            sound = w.sound;
+            least = stays t work g r w.stop touched w.rank w.onward p r at-found (after-touch t.step.kind t.step.age t.step.count r e);
             list = rw e;
           }
 
-      pub ended-stood : t.kind ≡ 2 → (y : ℕ) → y ≡ less_of t.age t.count r → (after : Order) → Sound after →
-          listed after ≡ cut p (listed held) → Stood held t work g r x p y after
-      unfolding kind_in next
-      ended-stood e y l after s c =
+      pub ended-stood : t.step.kind ≡ E → (y : ℕ) → y ≡ less_of t.step.age t.step.count r → (after : List ℕ) → after ≡ cut p held → Stood held t work g r x p y after
+      unfolding next
+      ended-stood e y l after c =
           record {
-            least = stays t work g r w.stop touched known w.rank w.onward p y at-found
-                (l ∙ after-end t.kind t.age t.count r touched (λ d. omega arith));
-            sound = s;
-            list = rw e (c ∙ ap (λ (k : ℕ). cut k (listed held)) (sym (less p)));
+            least = stays t work g r w.stop touched w.rank w.onward p y at-found
+                (l ∙ after-end t.step.kind t.step.age t.step.count r e);
+            list = rw e (c ∙ ap (λ (k : ℕ). cut k held) (sym (less p)));
           }
 
   -- a blank
-  pub rested-stood : 2 < t.kind → (p : ℕ) → p ≡ t.count - t.kl → Stood held t work g r x p r held
-  unfolding kind_in next
-  rested-stood h p e =
-      let k : t.kind ≡ 3 = omega (arith, w.kind) in
-      record { least = rests t work g r w.stop h w.onward p e; sound = w.sound; list = rw k refl }
+  pub rested-stood : t.step.kind ≡ N → (p : ℕ) → p ≡ t.step.count - t.streets.lower → Stood held t work g r x p r held
+  unfolding next
+  rested-stood h p e = record { least = rests t work g r w.stop h w.onward p e; list = rw h refl }

@@ -1,86 +1,99 @@
--- The last pass, node by node: the places so far begin the first way, and the order that is held is that of the rank.
-use mathlib.Core.Path.{◌≡◌, ap, ◌∙◌}
-use mathlib.Core.List.{List, map}
-use mathlib.Core.Option.{some}
+-- The walk through the nodes: the places so far begin the first way, the kinds are those of the steps, and the order is that of the rank.
+use mathlib.Core.Path.{◌≡◌, refl, sym, ap, ap₂, ◌∙◌}
+use mathlib.Core.List.{List, [], ◌∷◌, ◌++◌, map, map-append}
 use Prim.Native.Nat.{ℕ, suc, ◌+◌, ◌≤◌, ◌<◌}
 use native.Mathlib.Numerals.{add-one}
 use native.Mathlib.Omega.{arith}
-use lib.ListN.{length, get_or, take, set}
-use Rattle.rules.specs.Row.{Node, node, nodes}
+use lib.ListN.{length, get_or, take, set, length-map}
+use lib.Seq.{take-suc, take-suc-set, take-length}
+use Rattle.std.proofs.lemmas.List.{map-set, take-map}
+use Rattle.rules.specs.declared.Kind.{Kind}
+use Rattle.rules.specs.declared.Streets.{Streets}
+use Rattle.rules.specs.Row.{node, nodes}
 use Rattle.rules.specs.Street.{kind, next}
-use Rattle.rules.specs.Sheet.{code, kind_in}
-use Rattle.rules.proofs.Legal.{kind_in-code, code_lt}
-use Rattle.street.specs.declared.Order.{Order}
-use Rattle.street.specs.Order.{listed, Emptied}
-use Rattle.steps.specs.declared.rank.Stop.{Stop}
-use Rattle.steps.specs.Plan.{Step, step, steps}
-use Rattle.steps.specs.Ranks.{hop_of}
-use Rattle.steps.specs.Stops.{stop_of, hop_at}
-use Rattle.orders.specs.Passes.{Given, Kept, Passable, First}
-use Rattle.orders.proofs.Ways.{steps-at}
-use Rattle.orders.proofs.Nodes.{stop-ready}
+use Rattle.rules.proofs.Accepted.{length-nodes}
+use Rattle.steps.specs.declared.plan.Step.{Step}
+use Rattle.steps.proofs.Hops.{stop-lands}
+use Rattle.orders.specs.Passes.{Given, Kept, Passable}
+use Rattle.orders.proofs.Nodes.{none, stop_at, stop-ready}
 use Rattle.orders.proofs.Picking.{Picks, picks_start, picks-step, picks-end, leads-on, marks-led}
-use Rattle.router.specs.Walk.{Planned, Standing, Stood}
+use Rattle.script.specs.Told.{kinds}
+use Rattle.writer.specs.declared.entry.Entry.{Entry}
+use Rattle.router.specs.Walk.{Planned, Standing, Stood, Entered, aboves}
+use Rattle.router.proofs.Bridge.{length-told}
 use Rattle.router.proofs.Holding.{Holding, kind_at, kind-told, holding-none, holding-placed, holding-more}
 
-pub record Walks (row kinds ages counts : List ℕ) (ku kl : ℕ) (ps : List ℕ) (held : Order) (i r : ℕ) : Type 0 where
-  pub picks : Picks kinds ages counts ku kl ps i r
-  pub holding : Holding ku kl row (steps kinds ages counts) held i r
+-- the kinds of entries
+abbrev entry_kinds : List Entry → List Kind
+entry_kinds es = map (λ (e : Entry). e.kind) es
 
-module _ (row kinds ages counts : List ℕ) (ku kl : ℕ) (work : List ℕ) (given : Given kinds ages counts work ku kl)
-    (kept : Kept ku kl (steps kinds ages counts) work) (planned : Planned row kinds ages counts)
-    (told : kinds ≡ map (λ (n : Node). code (kind n)) (nodes row)) where
-  abbrev ss : List Step
-  ss = steps kinds ages counts
+pub record Walks (row : List ℕ) (ss : List Step) (st : Streets) (es : List Entry) (held : List ℕ) (i r : ℕ) : Type 0 where
+  pub picks : Picks ss st (aboves es) i r
+  pub holding : Holding st.upper st.lower row ss held i r
+  pub told : entry_kinds (take i es) ≡ kinds (take i ss)
 
-  pub walks-none : Passable ku kl ss → (held : Order) → Emptied held → (ps : List ℕ) → length ps ≡ 512 →
-      Walks row kinds ages counts ku kl ps held 0 0
-  walks-none p held e ps c =
+module _ (row : List ℕ) (ss : List Step) (st : Streets) (work : List ℕ) (given : Given ss work)
+    (kept : Kept st.upper st.lower ss work) (planned : Planned row ss) (told : kinds ss ≡ map kind (nodes row)) where
+  steps-count : length ss ≡ length row
+  steps-count = sym (length-told st.upper st.lower st.upper_few st.lower_few row planned.whole planned.tells given.plan planned.tells) ∙ length-nodes row
+
+  pub walks-none : Passable st.upper st.lower ss → (held : List ℕ) → held ≡ [] → (es : List Entry) → length es ≡ 512 → Walks row ss st es held 0 0
+  walks-none p held e es c =
       record {
-        picks = picks_start kinds ages counts ku kl work given kept ps c p;
-        holding = holding-none ku kl given.upper given.lower row planned.whole planned.tells given.plan held e;
+        picks = picks_start ss st work given kept (aboves es) (length-map es (λ (x : Entry). x.above) ∙ c) p;
+        holding = holding-none st.upper st.lower st.upper_few st.lower_few row planned.whole planned.tells given.plan held e;
+        told = refl;
       }
 
-  module _ (ps : List ℕ) (held : Order) (i r : ℕ) (w : Walks row kinds ages counts ku kl ps held i r) (h : i < length row) where
-    abbrev stop : Stop
-    stop = stop_of kinds ages counts ku kl i
+  module _ (es : List Entry) (held : List ℕ) (i r : ℕ) (w : Walks row ss st es held i r) (inside : i < length ss) where
+    pub in-row : i < length row
+    in-row = omega (arith, steps-count)
 
-    inside : i < length kinds
-    inside = omega (arith, planned.long)
+    kind-at : (get_or ss i none).kind ≡ kind_at row i
+    kind-at = kind-told row ss i in-row told
 
-    -- a hop of the stop is one of step i
-    step-hop : (p y : ℕ) → hop_at stop r p ≡ some y → hop_of ku kl (get_or ss i (step 0 0 0)) r p ≡ some y
-    step-hop p y e = rw (steps-at kinds ages counts i (step 0 0 0) inside) e
-
-    kind-at : get_or kinds i 0 ≡ code (kind_at row i)
-    kind-at = kind-told row kinds i h told
-
-    pub walks-standing : Standing held stop work i r (get_or row i 0)
+    pub walks-standing : Standing held (stop_at ss st i) work i r (get_or row i 0)
     walks-standing =
-        let s = stop-ready kinds ages counts ku kl i inside work r given w.picks.way in
+        let s = stop-ready ss st i inside work r given w.picks.way in
         record {
-          sound = w.holding.sound;
           stop = s.0;
-          kind = omega (arith, kind-at, code_lt (kind_at row i));
           room = omega (arith, given.room, inside);
           rank = s.1.below;
-          onward = leads-on kinds ages counts ku kl work given kept i r ps inside w.picks;
-          led = marks-led kinds ages counts ku kl work given kept i r ps inside w.picks;
+          onward = leads-on ss st work given kept i r (aboves es) inside w.picks;
+          led = marks-led ss st work given kept i r (aboves es) inside w.picks;
           placed = λ p y e. rw kind-at
-              (holding-placed ku kl given.upper given.lower row planned.whole planned.tells given.plan i r w.holding h p y (step-hop p y e));
+              (holding-placed st.upper st.lower st.upper_few st.lower_few row planned.whole planned.tells given.plan i r w.holding in-row p y e);
         }
 
-    pub walks_more : (p y : ℕ) (after : Order) → Stood held stop work i r (get_or row i 0) p y after →
-        Walks row kinds ages counts ku kl (set ps i p) after (i + 1) y
-    walks_more p y after s =
+    -- the place fits a sheet
+    pub place-few : (p y : ℕ) (after : List ℕ) → Stood held (stop_at ss st i) work i r (get_or row i 0) p y after → p < 16
+    place-few p y after s =
+        let h = stop-ready ss st i inside work r given w.picks.way in
+        omega (arith, (stop-lands (stop_at ss st i) r p y h.0 h.1.below s.least.lands.lands).0)
+
+    pub walks_more : (e : Entry) (y : ℕ) (after : List ℕ) → e.kind ≡ (get_or ss i none).kind → Stood held (stop_at ss st i) work i r (get_or row i 0) e.above y after →
+        Walks row ss st (set es i e) after (i + 1) y
+    walks_more e y after k s =
         record {
-          picks = picks-step kinds ages counts ku kl work given kept i r ps inside w.picks p y (omega (arith, planned.few, planned.long)) s.least;
+          picks = rw (map-set (λ (x : Entry). x.above) es i e)
+              (picks-step ss st work given kept i r (aboves es) inside w.picks e.above y (omega (arith, planned.few, steps-count)) s.least);
           holding = rw (add-one i)
-              (holding-more ku kl given.upper given.lower row planned.whole planned.tells given.plan i r w.holding h p y
-              (step-hop p y s.least.lands.lands) after s.sound
-              (s.list ∙ ap (λ k. next (node k (get_or row i 0)) (listed held) (suc p)) (ap kind_in kind-at ∙ kind_in-code (kind_at row i))));
+              (holding-more st.upper st.lower st.upper_few st.lower_few row planned.whole planned.tells given.plan i r w.holding in-row e.above y
+              s.least.lands.lands after
+              (s.list ∙ ap (λ k. next (node k (get_or row i 0)) held (suc e.above)) kind-at));
+          told = rw (add-one i)
+              (ap entry_kinds (take-suc-set es i e (omega (arith, w.picks.cells, length-map es (λ (x : Entry). x.above), planned.few, steps-count)))
+              ∙ map-append (λ (x : Entry). x.kind) (take i es) (e ∷ [])
+              ∙ ap₂ (λ (l : List Kind) (j : Kind). l ++ (j ∷ [])) w.told k
+              ∙ sym (map-append (λ (x : Step). x.kind) (take i ss) (get_or ss i none ∷ []))
+              ∙ ap kinds (sym (take-suc ss i none inside)));
         }
 
-  pub walks-end : (ps : List ℕ) (held : Order) (i r : ℕ) → Walks row kinds ages counts ku kl ps held i r → length row ≤ i →
-      First ku kl ss 0 (take (length ss) ps)
-  walks-end ps held i r w h = picks-end kinds ages counts ku kl work given kept i r ps (omega (arith, planned.long)) w.picks
+  pub walks-end : (es : List Entry) (held : List ℕ) (i r : ℕ) → Walks row ss st es held i r → length ss ≤ i → Entered st.upper st.lower ss es
+  walks-end es held i r w h =
+      let n : i ≡ length ss = omega (arith, w.picks.within) in
+      record {
+        cells = sym (length-map es (λ (x : Entry). x.above)) ∙ w.picks.cells;
+        told = rw n at w.told ∙ ap kinds (take-length ss);
+        first = rw (take-map (λ (x : Entry). x.above) (length ss) es) at (picks-end ss st work given kept i r (aboves es) h w.picks);
+      }

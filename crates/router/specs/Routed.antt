@@ -1,11 +1,9 @@
 -- What a call of the router gives: its answer and every byte of the lent buffers, for all inputs.
-use Rattle.std.specs.Prelude.{◌≡◌, Bool, true, false, List, ℕ}
-use Rattle.rules.specs.declared.Routing.{Routing}
+use Rattle.std.specs.Prelude.{◌≡◌, List, ℕ}
+use Rattle.rules.specs.Answers.{Routing}
 use Rattle.rules.specs.Row.{nodes}
 use Rattle.rules.specs.Street.{first}
 use Rattle.rules.specs.Answers.{routing, outcome, work_after, sheet_after}
-use Rattle.router.specs.declared.streets.Streets.{Streets}
-use Rattle.router.specs.declared.streets.Streets.TheVariants.{Narrow, Other}
 
 -- the router's contract
 pub record Routed (row : List ℕ) (ku kl : ℕ) (work out : List ℕ) (r : Routing) (work' out' : List ℕ) : Type 0 where
@@ -18,8 +16,3 @@ pub record Laid (row : List ℕ) (ku kl : ℕ) (work out : List ℕ) (r : Routin
   pub answer : r ≡ outcome ku kl (nodes row) (first ku kl (nodes row))
   pub cleared : work' ≡ work_after r row work
   pub written : out' ≡ sheet_after r row ku kl out
-
--- the class of a street pair, by whether the router takes it
-abbrev pub classed : Bool → Streets
-classed true = Narrow
-classed false = Other

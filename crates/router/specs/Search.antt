@@ -1,14 +1,18 @@
--- What the search over the sets of orders gives: how many nodes can be passed, the first way through them all, and work that is clear again.
-use Rattle.std.specs.Prelude.{◌≡◌, List, ℕ, suc, ◌<◌, ◌≤◌, length, take}
-use Rattle.steps.specs.Plan.{Step}
+-- What the search over the sets of orders gives: the entries of the first way through all nodes, or how many nodes can be passed, and work that is clear again.
+use Rattle.std.specs.Prelude.{◌≡◌, List, ℕ, suc, ◌<◌, length, take, Result, MatchResult}
+use Rattle.steps.specs.declared.plan.Step.{Step}
 use Rattle.steps.specs.Sets.{Clear}
-use Rattle.orders.specs.Passes.{Passable, First}
+use Rattle.orders.specs.Passes.{Passable}
+use Rattle.writer.specs.declared.entry.Entry.{Entry}
+use Rattle.router.specs.Walk.{Entered}
 
-pub record Searched (ku kl : ℕ) (ss : List Step) (work after : List ℕ) (passed : ℕ) (ps : List ℕ) : Type 0 where
+-- so many of the steps can be passed, and no more
+pub record Blocked (ku kl : ℕ) (ss : List Step) (passed : ℕ) : Type 0 where
+  pub within : passed < length ss
+  pub passes : Passable ku kl (take passed ss)
+  pub stuck : Passable ku kl (take (suc passed) ss) → ⊥
+
+pub record Searched (ku kl : ℕ) (ss : List Step) (work after : List ℕ) (r : Result (Unit {0}) ℕ) (es : List Entry) : Type 0 where
   pub long : length after ≡ length work
   pub clear : Clear after
-  pub within : passed ≤ length ss
-  pub passes : Passable ku kl (take passed ss)
-  pub stuck : passed < length ss → Passable ku kl (take (suc passed) ss) → ⊥
-  pub cells : length ps ≡ 512
-  pub first : passed ≡ length ss → First ku kl ss 0 (take (length ss) ps)
+  pub found : MatchResult r (λ u. Entered ku kl ss es) (Blocked ku kl ss)

@@ -1,8 +1,7 @@
 -- The labels of the open nets in cells, oldest first: what they list youngest first, and how a net begins, is found and ends there.
 use mathlib.Core.Path.{◌≡◌, refl, sym, ap, ap₂, ◌∙◌}
 use mathlib.Core.List.{List, ◌∷◌}
-use Prim.Native.Nat.{ℕ, zero, suc, ◌+◌, ◌-◌, ◌≤◌, ◌<◌}
-use native.Mathlib.Numerals.{add-one}
+use Prim.Native.Nat.{ℕ, zero, suc, ◌-◌, ◌≤◌, ◌<◌}
 use native.Mathlib.Decide.{ℕ_discrete, dec_lt}
 use native.Mathlib.Omega.{arith}
 use lib.ListN.{length, get_or, set, length-set}
@@ -11,7 +10,7 @@ use Rattle.rules.specs.Basic.{cut}
 use Rattle.rules.specs.Row.{before}
 use Rattle.rules.proofs.Pins.{at_before, before-found}
 use Rattle.street.specs.Order.{capacity}
-use Rattle.script.specs.Told.{lined, Lined, Closed}
+use Rattle.script.specs.Open.{lined, Lined, Closed}
 
 pub length-lined : (nets : List ℕ) (b : ℕ) → length (lined nets b) ≡ b
 unfolding lined
@@ -30,10 +29,6 @@ unfolding lined
 lined-cong nets nets' zero f = refl
 lined-cong nets nets' (suc b) f =
     ap₂ {C = List ℕ} (λ x l. x ∷ l) (f b (omega arith)) (lined-cong nets nets' b (λ k h. f k (omega arith)))
-
-pub lined-none : (nets elders : List ℕ) → length nets ≡ capacity → length elders ≡ 256 → Lined nets elders 0
-lined-none nets elders n e =
-    record { cells = n; entries = e; few = omega arith; labels = λ k h. absurd (omega arith); known = λ k h. absurd (omega arith) }
 
 module _ (nets elders : List ℕ) (b : ℕ) (l : Lined nets elders b) where
   -- two open nets have two labels
@@ -124,9 +119,6 @@ module _ (nets elders : List ℕ) (e b : ℕ) (l : Lined nets elders (suc b)) (h
     pub mover : get_or nets' (suc k) 0 ≡ get_or nets (suc k) 0
     mover = c.left (suc k) (omega arith)
 
-    pub mover-byte : get_or nets' (k + 1) 0 < 256
-    mover-byte = rw (add-one k, mover) (l.labels (suc k) (omega arith))
-
     module _ (y : ℕ) (is : y ≡ get_or nets (suc k) 0) where
       apart_from : (j : ℕ) → j < suc b → (j ≡ suc k → ⊥) → get_or nets j 0 ≡ y → ⊥
       apart_from j g n q = n (two nets elders (suc b) l j (suc k) g (omega arith) (q ∙ is))
@@ -198,3 +190,27 @@ closing_end nets elders e b l nets' elders' k c h =
     known : (j : ℕ) → j < b → Dec (j < e) → get_or elders' (get_or nets' j 0) 0 ≡ j
     known j g (yes o) = rw (c.older j o) (c.older-known j o)
     known j g (no o) = let m : e ≤ j = omega arith in rw (c.moved j m (omega arith)) (c.moved-known j m (omega arith))
+
+-- ---- the same, of the list that the cells are seen as
+
+module _ (nets elders : List ℕ) (b : ℕ) (l : Lined nets elders b) (o : List ℕ) (seen : lined nets b ≡ o) (x : ℕ) where
+  pub placed : before x o < length o → (get_or elders x 0 < b) × (b - suc (get_or elders x 0) ≡ before x o)
+  placed h = rw seen at (found nets elders b l x (rw seen h))
+
+  module _ (byte : x < 256) (room : length o < capacity) (fresh : length o ≤ before x o) where
+    pub below : b < capacity
+    below = omega (arith, length-lined nets b, ap length seen)
+
+    pub opened_lines : Lined (set nets b x) (set elders x b) (suc b)
+    opened_lines = begun_lines nets elders b l x byte below (rw seen fresh)
+
+    pub opened : lined (set nets b x) (suc b) ≡ x ∷ o
+    opened = lined-more nets elders b l x byte below (rw seen fresh) ∙ ap {B = List ℕ} (λ r. x ∷ r) seen
+
+  module _ (there : before x o < length o) where
+    pub closed : (e : ℕ) → e ≡ get_or elders x 0 → (nets' elders' : List ℕ) → Closed nets e (b - 1) nets' elders' → lined nets' (b - 1) ≡ cut (before x o) o
+    closed e q nets' elders' c =
+        let p = placed there in
+        let count : suc (b - 1) ≡ b = omega (arith, p.0) in
+        let place : b - 1 - e ≡ before x o = omega (arith, p.0, p.1) in
+        c.list ∙ ap₂ cut place (ap (lined nets) count ∙ seen)

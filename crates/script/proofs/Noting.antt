@@ -1,22 +1,26 @@
 -- Tables of first and last nodes grow node by node, and tell which nodes begin a net, which end one, and which are lone.
 use mathlib.Core.Path.{◌≡◌, refl, sym, ap, ap₂, ◌∙◌}
+use mathlib.Core.Logic.{◌⊎◌, inl, inr}
 use mathlib.Core.Bool.{Bool, true, false, not, ◌&&◌}
-use mathlib.Core.List.{List}
-use Prim.Native.Nat.{ℕ, suc, ◌+◌, ◌-◌, ◌≤◌, ◌<◌}
+use mathlib.Core.List.{List, [], ◌∷◌, ◌++◌, append-nil}
+use Prim.Native.Nat.{ℕ, zero, suc, ◌+◌, ◌-◌, ◌≤◌, ◌<◌}
 use native.Mathlib.Decide.{ℕ_discrete, dec_lt}
 use native.Mathlib.Omega.{arith}
-use lib.ListN.{length, get_or, set, length-set}
-use lib.Seq.{get_or-set_same, get_or-set_other}
-use lib.Dec.{eqb}
-use borrow.Author.Count.{below_more}
-use borrow.Author.Tests.{eqb-true, eqb-false, eq-eqb, ne_eqb}
+use lib.ListN.{length, get_or, take, drop, set, length-set, length-append, length-drop}
+use lib.Seq.{append_snoc, get_or-append_seam, get_or-set_same, get_or-set_other, get_or-take, length-take-le}
+use lib.Dec.{eqb, ltb}
+use borrow.Author.Tests.{eqb-true, eqb-false, eq-eqb, ne_eqb, ltb-true, ltb-false}
+use Rattle.std.specs.Prelude.{Option, None, Some, IsNone, IfSome, cond}
+use Rattle.std.specs.List.{position, position_or_len}
+use Rattle.std.proofs.lemmas.List.Sums.{position_or_len_is}
 use Rattle.rules.specs.Basic.{pick, least}
 use Rattle.rules.specs.Row.{before, blank, home, later, lone}
 use Rattle.rules.specs.Answers.{first_lone}
 use Rattle.rules.proofs.Pins.{before-found, home-le, label-home}
 use Rattle.rules.proofs.Least.{least-le, least-holds, least-before}
 use Rattle.rules.proofs.Open.{later-ahead, ahead-later}
-use Rattle.script.specs.Tabled.{noted, Firsts, Lasts, Tabled, alone, Apart}
+use Rattle.script.specs.declared.labels.Labels.{Labels}
+use Rattle.script.specs.Tabled.{noted, Firsts, Tabled, alone, Apart, lone_label}
 
 -- ---- a node writes its number
 
@@ -83,59 +87,53 @@ firsts-home row table f i h =
     let g : noted row table (home row i) ≡ noted row table i = ap (λ (x : ℕ). get_or table x 0) (label-home row i h) in
     omega (arith, pos, low, e, g, f.from (home row i) (omega arith) (omega (arith, home-le row i h)))
 
-pub lasts-none : (row table : List ℕ) → length table ≡ 256 → Lasts row 0 table
-lasts-none row table cells =
-    record { cells = cells; upto = λ i a. absurd (omega arith); within = λ i a. absurd (omega arith); same = λ i a. absurd (omega arith) }
+-- the nodes that are left of a row, where the table holds the first nodes among the others
+pub record FirstsBehind (row left table : List ℕ) : Type 0 where
+  pub passed : List ℕ
+  pub joined : left ++ passed ≡ row
+  pub firsts : Firsts row (length left) table
 
-pub lasts-more : (row table : List ℕ) (i : ℕ) → get_or row i 0 < 256 → Lasts row i table → Lasts row (suc i) (set table (get_or row i 0) (suc i))
-lasts-more row table i label l =
+pub behind-none : (row table : List ℕ) → length table ≡ 256 → FirstsBehind row row table
+behind-none row table cells = record { passed = []; joined = append-nil row; firsts = firsts-none row table cells }
+
+-- the last of them writes its number
+pub behind-more : (row left table : List ℕ) → FirstsBehind row left table → (before : List ℕ) (x : ℕ) → left ≡ before ++ (x ∷ []) → x < 256
+    → FirstsBehind row before (set table x (length left))
+behind-more row left table f before x e byte =
+    let whole : before ++ (x ∷ f.passed) ≡ row = sym (append_snoc before x f.passed) ∙ ap (λ (l : List ℕ). l ++ f.passed) (sym e) ∙ f.joined in
+    let own : get_or row (length before) 0 ≡ x = ap (λ (l : List ℕ). get_or l (length before) 0) (sym whole) ∙ get_or-append_seam before x f.passed 0 in
+    let long : length left ≡ suc (length before) = omega (arith, ap length e, length-append before (x ∷ [])) in
     record {
-      cells = length-set table (get_or row i 0) (suc i) ∙ l.cells;
-      upto = λ j a. upto j a (ℕ_discrete (get_or row j 0) (get_or row i 0));
-      within = λ j a. within j a (ℕ_discrete (get_or row j 0) (get_or row i 0));
-      same = λ j a. same j a (ℕ_discrete (get_or row j 0) (get_or row i 0));
+      passed = x ∷ f.passed;
+      joined = whole;
+      firsts = rw (long, ← own) (firsts_more row table (length before) (omega arith) (rw long at f.firsts));
     }
-  where
-    passed : (j : ℕ) → j < suc i → (get_or row j 0 ≡ get_or row i 0 → ⊥) → j < i
-    passed j a n = omega (arith, other-node row i j n)
-
-    upto : (j : ℕ) → j < suc i → Dec (get_or row j 0 ≡ get_or row i 0) → j < noted row (set table (get_or row i 0) (suc i)) j
-    upto j a (yes e) = omega (arith, noted-own row table i l.cells label j e)
-    upto j a (no n) = omega (arith, noted_other row table i l.cells label j n, l.upto j (passed j a n))
-
-    within : (j : ℕ) → j < suc i → Dec (get_or row j 0 ≡ get_or row i 0) → noted row (set table (get_or row i 0) (suc i)) j ≤ suc i
-    within j a (yes e) = omega (arith, noted-own row table i l.cells label j e)
-    within j a (no n) = omega (arith, noted_other row table i l.cells label j n, l.within j (passed j a n))
-
-    same : (j : ℕ) → j < suc i → Dec (get_or row j 0 ≡ get_or row i 0) → get_or row (noted row (set table (get_or row i 0) (suc i)) j - 1) 0 ≡ get_or row j 0
-    same j a (yes e) = own_same row table i l.cells label j e
-    same j a (no n) = other-same row table i l.cells label j n (l.same j (passed j a n))
 
 -- ---- what the tables tell of a node
 
-module _ (row first last : List ℕ) (t : Tabled row first last) (i : ℕ) (h : i < length row) where
-  pub begins-here : eqb (noted row first i) (suc i) ≡ eqb (home row i) i
+module _ (row : List ℕ) (labels : Labels) (t : Tabled row labels) (i : ℕ) (h : i < length row) where
+  pub begins-here : eqb (noted row labels.first i) (suc i) ≡ eqb (home row i) i
   begins-here = go (ℕ_discrete (home row i) i)
     where
-      go : Dec (home row i ≡ i) → eqb (noted row first i) (suc i) ≡ eqb (home row i) i
-      go (yes e) = eq-eqb (noted row first i) (suc i) (t.begins i h ∙ ap suc e) ∙ sym (eq-eqb (home row i) i e)
-      go (no n) = ne_eqb (noted row first i) (suc i) (λ e. n (omega (arith, t.begins i h))) ∙ sym (ne_eqb (home row i) i n)
+      go : Dec (home row i ≡ i) → eqb (noted row labels.first i) (suc i) ≡ eqb (home row i) i
+      go (yes e) = eq-eqb (noted row labels.first i) (suc i) (t.begins i h ∙ ap suc e) ∙ sym (eq-eqb (home row i) i e)
+      go (no n) = ne_eqb (noted row labels.first i) (suc i) (λ e. n (omega (arith, t.begins i h))) ∙ sym (ne_eqb (home row i) i n)
 
   -- a later node is in the net exactly where the last is another
-  pub later-not-last : later row i ≡ not (eqb (noted row last i) (suc i))
-  later-not-last = go (later row i) (eqb (noted row last i) (suc i)) refl refl
+  pub later-not-last : later row i ≡ not (eqb (noted row labels.last i) (suc i))
+  later-not-last = go (later row i) (eqb (noted row labels.last i) (suc i)) refl refl
     where
-      go : (b e : Bool) → later row i ≡ b → eqb (noted row last i) (suc i) ≡ e → b ≡ not e
+      go : (b e : Bool) → later row i ≡ b → eqb (noted row labels.last i) (suc i) ≡ e → b ≡ not e
       go true true q p =
           let a = later-ahead row i q in
-          let same : noted row last a.at ≡ noted row last i = ap (λ (x : ℕ). get_or last x 0) a.label in
-          absurd (omega (arith, t.lasts.upto a.at a.within, a.from, eqb-true (noted row last i) (suc i) p))
+          let same : noted row labels.last a.at ≡ noted row labels.last i = ap (λ (x : ℕ). get_or labels.last x 0) a.label in
+          absurd (omega (arith, t.lasts.upto a.at a.within, a.from, eqb-true (noted row labels.last i) (suc i) p))
       go true false q p = refl
       go false true q p = refl
       go false false q p =
-          let on : suc i < noted row last i = omega (arith, t.lasts.upto i h, eqb-false (noted row last i) (suc i) p) in
+          let on : suc i < noted row labels.last i = omega (arith, t.lasts.upto i h, eqb-false (noted row labels.last i) (suc i) p) in
           sym q ∙ ahead-later row i
-          (record { at = noted row last i - 1; from = omega arith; within = omega (arith, t.lasts.within i h); label = t.lasts.same i h })
+          (record { at = noted row labels.last i - 1; from = omega arith; within = omega (arith, t.lasts.within i h); label = t.lasts.same i h })
 
   -- a blank is not lone
   pub blank-not-lone : get_or row i 0 ≡ 255 → lone row i ≡ false
@@ -143,18 +141,18 @@ module _ (row first last : List ℕ) (t : Tabled row first last) (i : ℕ) (h : 
   blank-not-lone e = rw (eq-eqb (get_or row i 0) 255 e) refl
 
   -- another node is lone exactly where its net's first and last node are one
-  pub lone-one : (get_or row i 0 ≡ 255 → ⊥) → lone row i ≡ eqb (noted row first i) (noted row last i)
+  pub lone-one : (get_or row i 0 ≡ 255 → ⊥) → lone row i ≡ eqb (noted row labels.first i) (noted row labels.last i)
   unfolding lone blank
   lone-one n =
       ap (λ (t : Bool). not t && eqb (home row i) i && not (later row i)) (ne_eqb (get_or row i 0) 255 n)
       ∙ ap₂ (λ (a b : Bool). a && not b) (sym begins-here) later-not-last
-      ∙ go (ℕ_discrete (noted row first i) (suc i)) (ℕ_discrete (noted row last i) (suc i))
+      ∙ go (ℕ_discrete (noted row labels.first i) (suc i)) (ℕ_discrete (noted row labels.last i) (suc i))
     where
       f : ℕ
-      f = noted row first i
+      f = noted row labels.first i
 
       l : ℕ
-      l = noted row last i
+      l = noted row labels.last i
 
       go : Dec (f ≡ suc i) → Dec (l ≡ suc i) → (eqb f (suc i) && not (not (eqb l (suc i)))) ≡ eqb f l
       go (yes p) (yes q) = rw (eq-eqb f (suc i) p, eq-eqb l (suc i) q) (sym (eq-eqb f l (p ∙ sym q)))
@@ -181,29 +179,34 @@ least-is f n i h yep nope = go (ℕ_discrete (least f n) i)
     go (yes e) = e
     go (no d) = absurd (order d (dec_lt (least f n) i))
 
--- no node before i is lone
-abbrev pub NoneBefore : List ℕ → ℕ → Type 0
-NoneBefore row i = (j : ℕ) → j < i → lone row j ≡ false
+module _ (row : List ℕ) (labels : Labels) (t : Tabled row labels) where
+  lone-by_label : (i : ℕ) → i < length row → lone row i ≡ lone_label labels (get_or row i 0)
+  lone-by_label i h = go (ℕ_discrete (get_or row i 0) 255)
+    where
+      go : Dec (get_or row i 0 ≡ 255) → lone row i ≡ lone_label labels (get_or row i 0)
+      go (yes e) = blank-not-lone row labels t i h e ∙ sym (rw (eq-eqb (get_or row i 0) 255 e) refl)
+      go (no n) = lone-one row labels t i h n ∙ sym (rw (ne_eqb (get_or row i 0) 255 n) refl)
 
-module _ (row first last : List ℕ) (t : Tabled row first last) (i : ℕ) (none : NoneBefore row i) where
-  -- the search stops where first and last of a net are one ..
-  pub lone-found : i < length row → (get_or row i 0 ≡ 255 → ⊥) → noted row first i ≡ noted row last i → i ≡ first_lone row
+  first_by_label : position_or_len (lone_label labels) row ≡ first_lone row
   unfolding first_lone
-  lone-found h n e =
-      sym
-      (least-is (lone row) (length row) i (omega arith) (λ b. lone-one row first last t i h n ∙ eq-eqb (noted row first i) (noted row last i) e) none)
+  first_by_label =
+      let n = length row in
+      let low = least-le (lone row) n in
+      position_or_len_is (lone_label labels) row (least (lone row) n) 0 low
+      (λ k h. sym (lone-by_label k (omega arith)) ∙ least-before (lone row) n k h)
+      (λ h. sym (lone-by_label (least (lone row) n) h) ∙ least-holds (lone row) n h)
 
-  -- .. goes on where they are two, and at a blank ..
-  pub lone-past : i < length row → (get_or row i 0 ≡ 255 → ⊥) → (noted row first i ≡ noted row last i → ⊥) → NoneBefore row (i + 1)
-  lone-past h n m = below_more _ i none (lone-one row first last t i h n ∙ ne_eqb (noted row first i) (noted row last i) m)
-
-  pub blank-past : i < length row → get_or row i 0 ≡ 255 → NoneBefore row (i + 1)
-  blank-past h e = below_more _ i none (blank-not-lone row first last t i h e)
-
-  -- .. and ends with the row
-  pub lone-none : i ≡ length row → i ≡ first_lone row
+  -- the first place at which it is so is the first lone node
+  pub found-lone : (r : Option ℕ) → r ≡ position (lone_label labels) row
+      → (IsNone r → first_lone row ≡ length row) × IfSome r (λ i. (i < length row) × (first_lone row ≡ i))
   unfolding first_lone
-  lone-none e = sym (least-is (lone row) (length row) i (omega arith) (λ b. absurd (omega arith)) none)
+  found-lone r e = rw (e, first_by_label) (go (ltb (first_lone row) (length row)) refl)
+    where
+      go : (b : Bool) → ltb (first_lone row) (length row) ≡ b
+          → (IsNone (cond b (Some (first_lone row)) None) → first_lone row ≡ length row)
+          × IfSome (cond b (Some (first_lone row)) None) (λ i. (i < length row) × (first_lone row ≡ i))
+      go true q = (λ z. absurd (apart true refl z), (ltb-true (first_lone row) (length row) q, refl))
+      go false q = (λ z. omega (arith, ltb-false (first_lone row) (length row) q, least-le (lone row) (length row)), tt)
 
 -- a label that occurs and is not lone has two nodes
 alone-not : (f l : ℕ) → 0 < f → alone f l ≡ 0 → eqb f l ≡ false
@@ -215,12 +218,59 @@ alone-not f l h e = go (eqb f l) (rw (ne_eqb f 0 (λ z. omega arith)) at e)
     go false z = refl
 
 -- where no label of a net has one node only no node is lone
-pub apart_none : (row first last : List ℕ) → Tabled row first last → ((i : ℕ) → get_or row i 0 < 256) → Apart first last 255 → length row ≡ first_lone row
-apart_none row first last t byte a =
-    lone-none row first last t (length row) (λ j h. go j h (ℕ_discrete (get_or row j 0) 255)) refl
+pub apart_none : (row : List ℕ) (labels : Labels) → Tabled row labels → ((i : ℕ) → get_or row i 0 < 256) → Apart labels.first labels.last 255
+    → first_lone row ≡ length row
+unfolding first_lone
+apart_none row labels t byte a =
+    least-is (lone row) (length row) (length row) (omega arith) (λ b. absurd (omega arith)) (λ j h. go j h (ℕ_discrete (get_or row j 0) 255))
   where
     go : (j : ℕ) → j < length row → Dec (get_or row j 0 ≡ 255) → lone row j ≡ false
-    go j h (yes e) = blank-not-lone row first last t j h e
+    go j h (yes e) = blank-not-lone row labels t j h e
     go j h (no n) =
-        lone-one row first last t j h n
-        ∙ alone-not (noted row first j) (noted row last j) (omega (arith, t.begins j h)) (a (get_or row j 0) (omega (arith, byte j)))
+        lone-one row labels t j h n
+        ∙ alone-not (noted row labels.first j) (noted row labels.last j) (omega (arith, t.begins j h)) (a (get_or row j 0) (omega (arith, byte j)))
+
+-- ---- the labels gone through, of which none is lone while nothing is counted
+
+-- what is left of a list after k of it, and the next of them
+pub next-of : (l : List ℕ) (k x : ℕ) (r : List ℕ) → drop k l ≡ x ∷ r → (drop (suc k) l ≡ r) × (get_or l k 0 ≡ x) × (k < length l)
+next-of [] zero x r e = let z : ◌≡◌ {A = ℕ} 0 1 = cc in absurd (omega arith)
+next-of [] (suc k) x r e = let z : ◌≡◌ {A = ℕ} 0 1 = cc in absurd (omega arith)
+next-of (y ∷ l) zero x r e = let p : y ≡ x = cc in let q : l ≡ r = cc in (q, p, omega arith)
+next-of (y ∷ l) (suc k) x r e = let n = next-of l k x r e in (n.0, n.1, omega (arith, n.2))
+
+-- of two lists the first k are gone through, and what is left of them stands in the iterators
+pub record Counting (first last : List ℕ) (k count : ℕ) (rest rest' : List ℕ) : Type 0 where
+  pub few : count ≤ k
+  pub left : rest ≡ drop k first
+  pub left' : rest' ≡ drop k last
+  pub none : count ≡ 0 → Apart first last k
+
+pub counting-more : (first last : List ℕ) (k count : ℕ) (rest rest' : List ℕ) → Counting first last k count rest rest'
+    → (x y n : ℕ) (r r' : List ℕ) → rest ≡ x ∷ r → rest' ≡ y ∷ r' → n ≡ alone x y → n ≤ 1 → Counting first last (suc k) (count + n) r r'
+counting-more first last k count rest rest' c x y n r r' e e' is low =
+    let f = next-of first k x r (sym c.left ∙ e) in
+    let l = next-of last k y r' (sym c.left' ∙ e') in
+    record {
+      few = omega (arith, c.few);
+      left = sym f.0;
+      left' = sym l.0;
+      none = λ z i h. go i h (ℕ_discrete i k) z;
+    }
+  where
+    go : (i : ℕ) → i < suc k → Dec (i ≡ k) → count + n ≡ 0 → alone (get_or first i 0) (get_or last i 0) ≡ 0
+    go i h (yes q) z =
+        let f = next-of first k x r (sym c.left ∙ e) in
+        let l = next-of last k y r' (sym c.left' ∙ e') in
+        rw (q, f.1, l.1) (sym is ∙ omega arith)
+    go i h (no q) z = c.none (omega arith) i (omega arith)
+
+-- where the iterators hold no pair more, both lists are gone through
+pub counting-end : (first last : List ℕ) (n k count : ℕ) (rest rest' : List ℕ) → Counting (take n first) (take n last) k count rest rest' → n ≤ length first → n ≤ length last
+    → (length rest ≡ 0) ⊎ (length rest' ≡ 0) → count ≡ 0 → Apart first last n
+counting-end first last n k count rest rest' c f l e z x h =
+    rw (get_or-take n first x 0 h, get_or-take n last x 0 h) at (c.none z x (omega (arith, through e)))
+  where
+    through : (length rest ≡ 0) ⊎ (length rest' ≡ 0) → n ≤ k
+    through (inl e) = omega (arith, ap length c.left, length-drop k (take n first), length-take-le n first f)
+    through (inr e) = omega (arith, ap length c.left', length-drop k (take n last), length-take-le n last l)

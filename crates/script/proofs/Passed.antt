@@ -1,27 +1,21 @@
 -- Where a run gets through a row, the plan holds the kind of each of its nodes.
-use mathlib.Core.Path.{◌≡◌, refl, sym, ap, ◌∙◌}
+use mathlib.Core.Path.{◌≡◌, refl, ap}
 use mathlib.Core.List.{List, [], ◌∷◌, map}
 use mathlib.Core.Option.{some}
 use Prim.Native.Nat.{ℕ, suc, ◌+◌, ◌-◌, ◌≤◌, ◌<◌}
 use native.Mathlib.Omega.{arith}
-use lib.ListN.{length, get_or}
-use Rattle.rules.specs.Basic.{tabulate}
-use Rattle.rules.specs.Row.{before, B, M, E, N, Node, node, node_at, nodes}
+use lib.ListN.{length}
+use Rattle.rules.specs.declared.Kind.{Kind}
+use Rattle.rules.specs.declared.Kind.TheVariants.{B, M, E, N}
+use Rattle.rules.specs.Row.{before, Node, node, node_at, nodes}
 use Rattle.rules.specs.Street.{kind, counted, last, next, run}
-use Rattle.rules.specs.Sheet.{code}
 use Rattle.rules.proofs.Lists.{length-put, length_cut}
 use Rattle.rules.proofs.Fits.{FitsAt}
 use Rattle.rules.proofs.Open.{onto}
-use Rattle.steps.specs.Plan.{Step, step, young, Tells, steps}
+use Rattle.steps.specs.declared.plan.Step.{Step}
+use Rattle.steps.specs.Plan.{young, Tells}
+use Rattle.script.specs.Told.{kinds}
 use Rattle.script.proofs.Touched.{Kept, kept-none, kept_next, node-open, From, from-nodes}
-
-kind_field : Step → ℕ
-kind_field (step k a c) = k
-
-fields : (kinds : List ℕ) (a c : ℕ → ℕ) → map kind_field (tabulate (λ i. step (get_or kinds i 0) (a i) (c i)) (length kinds)) ≡ kinds
-unfolding tabulate kind_field
-fields [] a c = refl
-fields (k ∷ kinds) a c = ap {B = List ℕ} (λ l. k ∷ l) (fields kinds (λ i. a (suc i)) (λ i. c (suc i)))
 
 module _ (row : List ℕ) (ku kl : ℕ) (six : ku + kl ≤ 6) where
   -- youngest first or top to bottom, as many nets are open after a node
@@ -36,8 +30,8 @@ module _ (row : List ℕ) (ku kl : ℕ) (six : ku + kl ≤ 6) where
   as_many i h (node N x) y o p q kept e f = e
 
   same-kinds : {i : ℕ} {ns : List Node} {y : List ℕ} {ss : List Step} → From row i ns → Kept row i y → Tells ns y ss
-      → (o ps w : List ℕ) → length y ≡ length o → run ku kl ns o ps ≡ some w → map kind_field ss ≡ map (λ n. code (kind n)) ns
-  unfolding kind_field run kind counted
+      → (o ps w : List ℕ) → length y ≡ length o → run ku kl ns o ps ≡ some w → kinds ss ≡ map kind ns
+  unfolding run kind counted
   same-kinds From.nil kept Tells.nil o ps w e r = refl
   same-kinds (From.cons h q f) kept (Tells.full n l) o [] w e r = let z : ◌≡◌ {A = ℕ} 0 1 = cc in absurd (omega arith)
   same-kinds (From.cons h q f) kept (Tells.full {x} {ns = ns} n l) o (p ∷ ps) w e r =
@@ -46,11 +40,8 @@ module _ (row : List ℕ) (ku kl : ℕ) (six : ku + kl ≤ 6) where
   same-kinds (From.cons {i} {n} {ns} h q f) kept (Tells.more {o = y} room t) o (p ∷ ps) w e r =
       let a = onto ku kl n ns o p ps w r in
       let kept' : Kept row (suc i) (young n y) = rw q (kept_next row i h y kept) in
-      ap {B = List ℕ} (λ l. code (kind n) ∷ l) (same-kinds f kept' t (next n o p) ps w (as_many i h n y o p q kept e a.fitted) a.rest)
+      ap {B = List Kind} (λ l. kind n ∷ l) (same-kinds f kept' t (next n o p) ps w (as_many i h n y o p q kept e a.fitted) a.rest)
 
-  -- the plan's kind fields are those of the nodes, if a run gets through them in streets that hold six
-  pub plan-kinds : (kinds ages counts ps w : List ℕ) → Tells (nodes row) [] (steps kinds ages counts) → run ku kl (nodes row) [] ps ≡ some w
-      → kinds ≡ map (λ n. code (kind n)) (nodes row)
-  unfolding steps
-  plan-kinds kinds ages counts ps w t r =
-      sym (fields kinds (λ i. get_or ages i 0) (λ i. get_or counts i 0)) ∙ same-kinds (from-nodes row) (kept-none row) t [] ps w refl r
+  -- the plan's kinds are those of the nodes, if a run gets through them in streets that hold six
+  pub plan-kinds : (ss : List Step) (ps w : List ℕ) → Tells (nodes row) [] ss → run ku kl (nodes row) [] ps ≡ some w → kinds ss ≡ map kind (nodes row)
+  plan-kinds ss ps w t r = same-kinds (from-nodes row) (kept-none row) t [] ps w refl r

@@ -3,7 +3,9 @@ use mathlib.Core.Path.{◌≡◌, refl, ap, ◌∙◌}
 use mathlib.Core.List.{List, map}
 use Prim.Native.Nat.{ℕ}
 use Rattle.rules.specs.Basic.{cut}
-use Rattle.rules.specs.Row.{before, Kind, B, M, E, N, node}
+use Rattle.rules.specs.declared.Kind.{Kind}
+use Rattle.rules.specs.declared.Kind.TheVariants.{B, M, E, N}
+use Rattle.rules.specs.Row.{before, node}
 use Rattle.rules.proofs.Renamed.{cut-map, before-map, Only}
 use Rattle.steps.specs.Plan.{young, age}
 

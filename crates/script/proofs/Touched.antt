@@ -9,15 +9,16 @@ use lib.ListN.{length, get_or}
 use lib.Dec.{eqb}
 use borrow.Author.Tests.{eqb-false}
 use Rattle.rules.specs.Basic.{pick, cut, tabulate}
-use Rattle.rules.specs.Row.{before, blank, home, later, Kind, B, M, E, N, Node, node, node_at, nodes, kind_of}
+use Rattle.rules.specs.declared.Kind.{Kind}
+use Rattle.rules.specs.declared.Kind.TheVariants.{B, M, E, N}
+use Rattle.rules.specs.Row.{before, blank, home, later, Node, node, node_at, nodes, kind_of}
 use Rattle.rules.specs.Street.{kind}
-use Rattle.rules.specs.Sheet.{code, kind_in}
-use Rattle.rules.specs.Judgement.{left}
 use Rattle.rules.proofs.Pins.{at_before, home-le, label-home, node-blank, node-net}
 use Rattle.rules.proofs.Lists.{length_cut}
 use Rattle.rules.proofs.Legal.{New}
 use Rattle.rules.proofs.Open.{one, one_same, one-other, times, times_cut, Ahead, ahead-later}
-use Rattle.steps.specs.Plan.{Step, step, young, age, Steps, Tells}
+use Rattle.steps.specs.declared.plan.Step.{Step}
+use Rattle.steps.specs.Plan.{step, young, age, Steps, Tells}
 use Rattle.script.proofs.Noting.{apart}
 
 -- what stands in a list is found in it
@@ -140,7 +141,7 @@ from-nodes row = from-table row (length row) 0 (node_at row) (λ j l. ap (node_a
 -- ---- the plan can be followed
 
 follow : (row : List ℕ) {i : ℕ} {ns : List Node} {o : List ℕ} {ss : List Step} → From row i ns → Kept row i o → length o ≤ 6 → Tells ns o ss → Steps (length o) ss
-unfolding kind young age code left kind_in
+unfolding kind young age
 follow row nil kept few Tells.nil = Steps.nil few
 follow row (cons h e r) kept few (Tells.full six long) = rw six Steps.full
 follow row (cons {i} {n} h e r) kept few (Tells.more {o = o} {ss = ss} room t) =
@@ -148,14 +149,13 @@ follow row (cons {i} {n} h e r) kept few (Tells.more {o = o} {ss = ss} room t) =
     go n e room (λ f. follow row r kept' f t)
   where
     go : (n : Node) → n ≡ node_at row i → (kind n ≡ B → length o < 6) → (length (young n o) ≤ 6 → Steps (length (young n o)) ss)
-        → Steps (length o) (step (code (kind n)) (age n o) (length o) ∷ ss)
+        → Steps (length o) (step (kind n) (age n o) (length o) ∷ ss)
     go (node B x) e room rest = Steps.begins (room refl) (rest (room refl))
-    go (node M x) e room rest =
-        Steps.meet {k = 1} {a = before x o} {b = length o} (omega arith) (omega arith) (node-open row i h o kept M x (λ n. n) e) few (rest few)
+    go (node M x) e room rest = Steps.meets {a = before x o} {b = length o} (node-open row i h o kept M x (λ n. n) e) few (rest few)
     go (node E x) e room rest =
         let there : before x o < length o = node-open row i h o kept E x (λ n. n) e in
         let less : length (cut (before x o) o) ≡ length o - 1 = omega (arith, length_cut (before x o) o there) in
-        Steps.meet {k = 2} {a = before x o} {b = length o} (omega arith) (omega arith) there few (rw less at (rest (omega arith)))
+        Steps.ends {a = before x o} {b = length o} there few (rw less at (rest (omega arith)))
     go (node N x) e room rest = Steps.rests few (rest few)
 
 -- steps that tell a row's nodes are steps that the passes can follow

@@ -1,3 +1,2 @@
 -- The laws that this crate's proofs and the router's cite.
 pub mod Laying
-pub mod Zipping

@@ -1,10 +1,8 @@
--- `writer::write_fours` meets its contract. The loop's invariant: the nodes of k fours are laid behind the head. Assumes nothing.
-use Prim.Native.Nat.{◌-◌, ◌*◌, ◌≤◌}
-use Rattle.writer.specs.Entered.{Started}
+-- The nodes of the fours passed are laid behind the head.
+use Rattle.std.proofs.Common.{length}
+use Rattle.writer.proofs.Laying.{Fours}
 use Rattle.writer.proofs.write_fours.Given as goal
 
 abbrev pub invariant-loop-k : goal.invariant-loop-k
-invariant-loop-k l = (l.k ≤ l.fours) × Started l.initial.buf l.kinds l.places (4 * l.k) l.buf
-
-abbrev pub decreases-loop-k : goal.decreases-loop-k
-decreases-loop-k l = l.fours - l.k
+invariant-loop-k l =
+    Fours l.initial.buf l.entries (length l.yielded) l.k-iterator.iter.rest.now l.k-iterator.iter.size l.k-iterator.count l.buf

@@ -1,17 +1,18 @@
--- `router::search::search` meets its contract: the tables are right, antt computes each. Assumes nothing.
-use mathlib.Core.Path.{refl}
-use Rattle.rules.specs.Basic.{pick, every}
-use Rattle.rules.specs.Street.{limits, met, fits}
-use Rattle.steps.specs.Ranks.{fact, under, spared, at_of, less_of}
-use Rattle.steps.specs.Sets.{bit}
-use Rattle.steps.specs.Four.{image, gather}
-use Rattle.steps.proofs.FourTables.{rest_at, back_at, stand_at, legal_at, spot_at, rests, backs, stands, legals, spots, tables-right}
+-- Each pass hands on what the next one asks.
+use Rattle.orders.proofs.Joining.{given-same, forward-filled, forward-passes, pruned-kept}
+use Rattle.router.proofs.Searching.{kinds-told, of-ok}
 use Rattle.router.proofs.search.search.Goals as goal
 
-pub search_by-requires : goal.search_by-requires
-unfolding rests backs stands legals spots rest_at back_at stand_at legal_at spot_at every image gather at_of less_of under spared fact pick bit fits limits met
-search_by-requires c = let p = c.requires in record {
-  given = p.given;
-  planned = p.planned;
-  tables = (tables-right _ refl tt tt tt tt tt, p.ps_len);
-}
+pub walk-requires-clause-kept : goal.walk-requires-clause-kept
+walk-requires-clause-kept c =
+    let g = c.args in
+    let f = of-ok _ _ _ c.forward-passed.result c.forward-passed.ensures c.if-is_ok.ensures.value in
+    let w = c.forward-passed.new.work in
+    pruned-kept g.plan.now g.streets w c.prune.new.work (given-same g.plan.now g.streets g.work.now w f.long c.requires.given)
+    (forward-filled g.plan.now g.streets g.work.now w f) c.prune.ensures
+
+pub walk-requires-clause-told : goal.walk-requires-clause-told
+walk-requires-clause-told c =
+    let g = c.args in
+    let f = of-ok _ _ _ c.forward-passed.result c.forward-passed.ensures c.if-is_ok.ensures.value in
+    kinds-told g.row.now g.plan.now g.streets g.work.now c.requires.given c.requires.planned (forward-passes g.plan.now g.streets g.work.now c.forward-passed.new.work f)

@@ -1,71 +1,72 @@
--- `router::walk::stand` meets its contract, by the kind: `entered-stood`, `met-stood`, `ended-stood` and `rested-stood`. Assumes nothing.
-use native.Mathlib.Omega.{arith}
+-- By the kind: `entered-stood`, `met-stood`, `ended-stood` and `rested-stood`.
+use Rattle.std.proofs.Common.{arith, refl}
+use Rattle.std.specs.Prelude.{IsTrue}
+use Rattle.steps.specs.Plan.{touches}
 use Rattle.orders.proofs.Entering.{enters-somewhere, enters-room, enters-ranks}
 use Rattle.router.proofs.Turning.{entered-room, entered-stood, located-found, located-within, met-stood, ended-stood, rested-stood}
 use Rattle.router.proofs.walk.stand.Goals as goal
 
-pub enter-chosen-requires : goal.enter-chosen-requires
-enter-chosen-requires c =
-    let g = c in
-    let a = g.args in
-    let w = g.requires.standing in
-    let e = c.in-0.is in record {
-      g_in_bounds = (w.room, enters-room a.stop a.work.now a.g a.r w.stop e w.rank w.led w.onward, w.rank);
-      somewhere = enters-somewhere a.stop a.work.now a.g a.r w.stop e w.rank w.led w.onward;
-      by_index = enters-ranks a.stop a.work.now a.g a.r w.stop e w.rank w.led;
-    }
+pub enter-place-requires-clause-g_in_bounds : goal.enter-place-requires-clause-g_in_bounds
+enter-place-requires-clause-g_in_bounds c =
+    let a = c.args in
+    let w = c.requires in
+    rw c.from.ensures (w.room, enters-room a.stop a.work.now a.g a.rank w.stop c.in-B.is w.rank w.led w.onward, w.rank)
 
-pub insert-next-requires : goal.insert-next-requires
-insert-next-requires c =
-    let g = c in
-    let a = g.args in
-    let o = entered-room a.held a.stop a.work.now a.g a.r a.x g.requires.standing c.in-0.is c.enter-chosen.result.at
-    c.enter-chosen.result.rest c.enter-chosen.ensures in
-    (g.requires.standing.sound, o.0, omega (arith, o.1))
+pub enter-place-requires-clause-somewhere : goal.enter-place-requires-clause-somewhere
+enter-place-requires-clause-somewhere c =
+    let a = c.args in
+    let w = c.requires in
+    rw c.from.ensures (enters-somewhere a.stop a.work.now a.g a.rank w.stop c.in-B.is w.rank w.led w.onward)
 
-pub remove-next-requires : goal.remove-next-requires
-remove-next-requires c =
-    let g = c in
-    let a = g.args in
-    let m = c.in-2.is in
-    (g.requires.standing.sound, located-within a.held a.stop a.work.now a.g a.r a.x g.requires.standing (omega (arith, m)) (omega (arith, m)) c.locate-left.ensures.at)
+pub enter-place-requires-clause-by_index : goal.enter-place-requires-clause-by_index
+enter-place-requires-clause-by_index c =
+    let a = c.args in
+    let w = c.requires in
+    rw c.from.ensures (enters-ranks a.stop a.work.now a.g a.rank w.stop c.in-B.is w.rank w.led)
 
-pub overflow_cast-result-in-2 : goal.overflow_cast-result-in-2
-overflow_cast-result-in-2 c =
-    let g = c in
-    let a = g.args in
-    let m = c.in-2.is in
-    let p = located-within a.held a.stop a.work.now a.g a.r a.x g.requires.standing (omega (arith, m)) (omega (arith, m)) c.locate-left.ensures.at in
-    omega (arith, p, g.requires.standing.sound.few)
+pub insert-requires : goal.insert-requires
+insert-requires c =
+    let a = c.args in
+    let w = c.requires in
+    let o = entered-room a.held a.stop a.work.now a.g a.rank a.x w c.in-B.is c.enter-place.result.at c.enter-place.result.rest
+    (rw c.from.ensures at c.enter-place.ensures) in
+    (o.0, omega (arith, o.1))
 
-pub returns-in-0 : goal.returns-in-0
-returns-in-0 c =
-    let g = c in
-    let a = g.args in
-    let n = c.enter-chosen in
-    entered-stood a.held a.stop a.work.now a.g a.r a.x g.requires.standing c.in-0.is n.result.at n.result.rest
-    n.ensures c.insert-next.result c.insert-next.ensures.sound c.insert-next.ensures.list
+pub remove-requires : goal.remove-requires
+remove-requires c =
+    let a = c.args in
+    let w = c.requires in
+    let t : IsTrue (touches a.stop.step.kind) = rw c.in-E.is refl in
+    located-within a.held a.stop a.work.now a.g a.rank a.x w t (rw (c.from-in-E.ensures, c.from-in-E-2.ensures) at c.locate-place.ensures.at)
 
-pub returns-in-1 : goal.returns-in-1
-returns-in-1 c =
-    let g = c in
-    let a = g.args in
-    met-stood a.held a.stop a.work.now a.g a.r a.x g.requires.standing (omega (arith, c.in-1.is)) (omega (arith, c.in-1.is)) c.find-place.result
-    c.find-place.ensures.place c.in-1.is
+pub returns-in-B : goal.returns-in-B
+returns-in-B c =
+    let a = c.args in
+    let w = c.requires in
+    let n = c.enter-place in
+    entered-stood a.held a.stop a.work.now a.g a.rank a.x w c.in-B.is n.result.at n.result.rest
+    (rw c.from.ensures at n.ensures) c.insert.result c.insert.ensures
 
-pub returns-in-2 : goal.returns-in-2
-returns-in-2 c =
-    let g = c in
-    let a = g.args in
-    let l = c.locate-left in
-    let m = c.in-2.is in
-    let p = located-found a.held a.stop a.work.now a.g a.r a.x g.requires.standing (omega (arith, m)) (omega (arith, m)) l.ensures.at in
-    ended-stood a.held a.stop a.work.now a.g a.r a.x g.requires.standing (omega (arith, m)) (omega (arith, m)) l.result.at p
-    m l.result.rest l.ensures.rest c.remove-next.result c.remove-next.ensures.sound c.remove-next.ensures.list
+pub returns-in-M : goal.returns-in-M
+returns-in-M c =
+    let a = c.args in
+    let w = c.requires in
+    let t : IsTrue (touches a.stop.step.kind) = rw c.in-M.is refl in
+    met-stood a.held a.stop a.work.now a.g a.rank a.x w t c.find-at.result c.find-at.ensures c.in-M.is
 
-pub returns-in_default : goal.returns-in_default
-returns-in_default c =
-    let g = c in
-    let a = g.args in
-    rested-stood a.held a.stop a.work.now a.g a.r a.x g.requires.standing (omega arith) c.fewest_above.result
-    c.fewest_above.ensures
+pub returns-in-E : goal.returns-in-E
+returns-in-E c =
+    let a = c.args in
+    let w = c.requires in
+    let t : IsTrue (touches a.stop.step.kind) = rw c.in-E.is refl in
+    let l = c.locate-place in
+    let e = rw (c.from-in-E.ensures, c.from-in-E-2.ensures) at l.ensures.at in
+    let p = located-found a.held a.stop a.work.now a.g a.rank a.x w t e in
+    ended-stood a.held a.stop a.work.now a.g a.rank a.x w t l.result.at p
+    c.in-E.is l.result.rest (rw (c.from-in-E.ensures, c.from-in-E-2.ensures) at l.ensures.rest) c.remove.result c.remove.ensures
+
+pub returns-in-N : goal.returns-in-N
+returns-in-N c =
+    let a = c.args in
+    let w = c.requires in
+    rested-stood a.held a.stop a.work.now a.g a.rank a.x w c.in-N.is _ (omega arith)

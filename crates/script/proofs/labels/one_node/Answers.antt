@@ -1,18 +1,24 @@
--- `script::labels::one_node` meets its contract: its tests are those of `alone`. Assumes nothing.
-use native.Mathlib.Omega.{arith}
+-- `script::labels::one_node` meets its contract: its tests are those of `alone`.
+use Rattle.std.proofs.Common.{◌≡◌, ◌≤◌, Bool, true, false, arith, refl}
+use mir.Val.{bool_byte}
 use borrow.Author.Tests.{eq-eqb, ne_eqb}
 use Rattle.rules.specs.Basic.{pick}
 use Rattle.script.specs.Tabled.{alone}
 use Rattle.script.proofs.labels.one_node.Goals as goal
+use Rattle.script.proofs.labels.one_node.Goals.{then-first-ne0, else-first-ne0}
 
-pub returns-then-first-eq0 : goal.returns-then-first-eq0
-unfolding alone pick
-returns-then-first-eq0 c = let g = c.args in (rw (eq-eqb g.first 0 c.if-first-eq0.true), omega arith)
+byte_small : (b : Bool) → bool_byte b ≤ 1
+byte_small true = omega arith
+byte_small false = omega arith
 
-pub returns-then-first-last : goal.returns-then-first-last
-unfolding alone pick
-returns-then-first-last c = let g = c.args in (rw (ne_eqb g.first 0 c.if-first-eq0.false, eq-eqb g.first g.last c.if-first-last.true), omega arith)
+byte_pick : (b : Bool) → bool_byte b ≡ pick b 1 0
+unfolding pick
+byte_pick true = refl
+byte_pick false = refl
 
 pub returns : goal.returns
 unfolding alone pick
-returns c = let g = c.args in (rw (ne_eqb g.first 0 c.if-first-eq0.false, ne_eqb g.first g.last c.if-first-last.false), omega arith)
+returns c = elim c.if-first-ne0.branch [
+  | then-first-ne0 w ↦ rw (c.from.ensures, w.from-is, ne_eqb c.args.first 0 w.if-first-ne0.true) (byte_pick _, byte_small _)
+  | else-first-ne0 w ↦ rw (c.from.ensures, w.from-is, eq-eqb c.args.first 0 w.if-first-ne0.false) (refl, omega arith)
+]

@@ -1,53 +1,29 @@
--- `script::plan::tell` meets its contract. The loop's invariant is `Telling`, the plan of the nodes passed goes before that of the rest, and `Lined`, the cells and
--- the table tell which nets are open. Assumes nothing.
-use mathlib.Core.Path.{refl, sym, ◌∙◌}
-use native.Mathlib.Numerals.{add-one}
-use native.Mathlib.Omega.{arith}
-use Rattle.script.specs.Told.{lined}
-use Rattle.script.proofs.Lining.{length-lined, lined-none}
+-- What is told so far grows by each node's step, by `telling-more`, up to one that finds six open, by `telling-full`.
+use Rattle.std.proofs.Common.{arith, add-one}
 use Rattle.script.proofs.Telling.{telling-none, telling-turning, telling-more, telling-full, telling-end}
 use Rattle.script.proofs.plan.tell.Goals as goal
 
 pub loop-i-init : goal.loop-i-init
-unfolding lined
-loop-i-init c =
-    let s = c in
-    let g = s.args in
-    (telling-none g.row.now g.kinds.now g.ages.now g.counts.now s.requires.cells, lined-none _ _ refl refl)
+loop-i-init c = rw c.new-nets.ensures (telling-none c.args.row.now c.args.plan.now (omega arith))
 
 pub turn_at-turn-requires : goal.turn_at-turn-requires
 turn_at-turn-requires c =
-    let s = c in
-    let g = s.args in
-    let l = c.loop-i in record {
-      lined = (l.invariant.1, omega (arith, s.requires.row_len_bound));
-      turning = telling-turning g.row.now g.first.now g.last.now l.kinds l.ages l.counts (lined l.nets l.b) l.i _ l.b s.requires.tabled s.requires.row_len_bound l.invariant.0 (omega arith) (length-lined l.nets l.b) refl;
-    }
-
-pub returns-then-turn : goal.returns-then-turn
-returns-then-turn c =
-    let s = c in
-    let g = s.args in
     let l = c.loop-i in
-    let t = c.turn_at-turn in
-    telling-full g.row.now g.first.now g.last.now l.kinds l.ages l.counts (lined l.nets l.b) l.i t.result.kind l.b s.requires.tabled s.requires.row_len_bound l.invariant.0 (omega arith) (length-lined l.nets l.b) t.ensures.kind-is
-    (rw t.ensures.kind-is (sym t.ensures.full_is ∙ c.if-turn.true))
+    rw (c.from-at.ensures, add-one l.i)
+    (telling-turning c.args.row.now c.args.labels.now l.plan l.nets l.i c.requires.tabled c.requires.row_len_bound l.invariant c.loop-i-test.true)
+
+pub returns-in_default : goal.returns-in_default
+returns-in_default c =
+    let l = c.loop-i in
+    telling-full c.args.row.now c.args.labels.now l.plan l.nets l.i c.requires.tabled c.requires.row_len_bound l.invariant c.loop-i-test.true
+    (rw (c.from-at.ensures, add-one l.i) at c.in_default.ensures)
 
 pub loop-i-preserved : goal.loop-i-preserved
 loop-i-preserved c =
-    let s = c in
-    let g = s.args in
     let l = c.loop-i in
-    let t = c.turn_at-turn in (
-      rw (add-one l.i)
-          (telling-more g.row.now g.first.now g.last.now l.kinds l.ages l.counts (lined l.nets l.b) l.i t.result.kind l.b s.requires.tabled s.requires.row_len_bound l.invariant.0 (omega arith) (length-lined l.nets l.b) t.ensures.kind-is
-          l.invariant.1.few (rw t.ensures.kind-is (sym t.ensures.full_is ∙ c.if-turn.false)) t.result.age _
-          (rw t.ensures.kind-is (t.ensures.turned c.if-turn.false))),
-      t.ensures.lines,
-    )
+    rw (add-one l.i)
+    (telling-more c.args.row.now c.args.labels.now l.plan l.nets l.i c.requires.tabled c.requires.row_len_bound l.invariant c.loop-i-test.true
+    c.in-Some.step c.turn_at-turn.new.nets (rw (c.from-at.ensures, add-one l.i) at c.in-Some.ensures))
 
 pub returns : goal.returns
-returns c =
-    let s = c in
-    let l = c.loop-i in
-    telling-end s.args.row.now l.kinds l.ages l.counts (lined l.nets l.b) l.i s.requires.row_len_bound l.invariant.0 (omega arith)
+returns c = telling-end c.args.row.now c.loop-i.plan c.loop-i.nets c.loop-i.i c.loop-i.invariant (omega arith)
