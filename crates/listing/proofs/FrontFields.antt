@@ -5,7 +5,7 @@ use Prim.Native.Nat.{ℕ, ◌+◌, ◌*◌, ◌≤◌, ◌<◌}
 use native.Mathlib.Omega.{arith}
 use lib.ListN.{length, take, drop, length-drop}
 use lib.Seq.{take-append-le, drop-append-le}
-use Rattle.rules.specs.declared.Routing.{Routing}
+use Rattle.std.specs.declared.result.Result.TheVariants.{Ok}
 use Rattle.rules.specs.Basic.{tabulate}
 use Rattle.rules.specs.Bits.{val, bits, field}
 use Rattle.rules.specs.Sheet.{Entry, entry, size, upper_of, lower_of, count_of, entry_at, entries_of}
@@ -41,7 +41,7 @@ module _ (s t : List ℕ) where
         ap (tabulate (entry_at (s ++ t))) (front-count (omega (arith, long)))
         ∙ tabulate-cong (entry_at (s ++ t)) (entry_at s) (count_of s) front-entry
 
-    pub front-listed : (n : ℕ) → listed (Routing.Sheet n) (s ++ t) ≡ listed (Routing.Sheet n) s
+    pub front-listed : (n : ℕ) → listed (Ok n) (s ++ t) ≡ listed (Ok n) s
     unfolding listed upper_of lower_of
     front-listed n =
         ap₂ (λ (ku kl : ℕ). head_line n ku kl ++ node_lines 1 0 (entries_of (s ++ t))) (front-field 0 4 (omega (arith, long))) (front-field 4 2 (omega (arith, long)))

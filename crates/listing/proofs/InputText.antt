@@ -8,7 +8,8 @@ use lib.ListN.{length, get_or, take, drop}
 use lib.Seq.{take_all, length-take-le}
 use lib.Dec.{ltb}
 use borrow.Author.Tests.{lt-ltb, le-ltb, ltb-true, ltb-false}
-use Rattle.rules.specs.declared.Routing.{Routing}
+use Rattle.std.specs.declared.result.Result.TheVariants.{Err}
+use Rattle.rules.specs.declared.RouteError.TheVariants.{RowLength}
 use Rattle.rules.specs.Basic.{keep, or_else, settle}
 use Rattle.rules.specs.Judgement.{wrong_count}
 use Rattle.rules.specs.Answers.{refusal, routing}
@@ -28,7 +29,7 @@ long-input (ku ∷ []) h = absurd (omega arith)
 long-input (ku ∷ kl ∷ row) h = ap (λ (l : List ℕ). row_text l ku kl) (take_all (length (ku ∷ kl ∷ row) - 2) row (omega arith))
 
 -- over 512 nodes are refused, whichever they are
-many : (row : List ℕ) (ku kl : ℕ) → 512 < length row → answer row ku kl ≡ Routing.RowLength
+many : (row : List ℕ) (ku kl : ℕ) → 512 < length row → answer row ku kl ≡ Err RowLength
 unfolding answer routing refusal wrong_count settle or_else keep
 many row ku kl h = rw (le-ltb (length row) 2 (omega arith), lt-ltb 512 (length row) h)
 

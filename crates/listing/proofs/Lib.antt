@@ -1,8 +1,5 @@
 -- The laws that this crate's proofs cite.
 pub mod Writing
-pub mod Powers
-pub mod Decimals
-pub mod KindFields
 pub mod Lines
 pub mod FrontFields
 pub mod RoutedText

@@ -5,14 +5,17 @@ use Prim.Native.Nat.{ℕ, suc, ◌+◌, ◌*◌, ◌≤◌, ◌<◌}
 use native.Mathlib.Numerals.{add-one}
 use native.Mathlib.Omega.{arith}
 use lib.ListN.{length, get_or, drop, length-append}
+use Rattle.rules.specs.declared.Kind.{Kind}
 use Rattle.rules.specs.Street.{counted}
 use Rattle.rules.specs.Sheet.{kind_in, Entry, entry}
+use Rattle.sheet.specs.Told.{kind_at, above_at}
 use Rattle.sheet.specs.Fields.{entry_in, entries_in}
 use Rattle.sheet.proofs.Scans.{entries_from, entries-end}
-use Rattle.listing.specs.Text.{decimal, closed, line, letter, place_in, node_line, open_after, node_lines}
+use Rattle.std.specs.Fmt.{decimal}
+use Rattle.listing.specs.Text.{closed, line, letter, place_in, node_line, open_after, node_lines}
 use Rattle.listing.specs.Wrote.{Wrote}
 use Rattle.listing.proofs.Writing.{wrote_none, wrote-more}
-use Rattle.listing.proofs.Decimals.{decimal-short}
+use Rattle.std.proofs.lemmas.Fmt.{length-decimal-le}
 
 -- the same word put
 pub same_word : (byte : ℕ) {word word' text text' : List ℕ} {at end : ℕ} → word ≡ word' → Wrote text at (closed word byte) text' end
@@ -25,7 +28,7 @@ unfolding closed
 word-ends word byte w = omega (arith, w.ends, length-append word (byte ∷ []))
 
 pub number-ends : (n byte : ℕ) {text text' : List ℕ} {at end : ℕ} → n < 1000 → Wrote text at (closed (decimal n) byte) text' end → end ≤ at + 4
-number-ends n byte h w = omega (arith, word-ends (decimal n) byte w, decimal-short 2 n h)
+number-ends n byte h w = omega (arith, word-ends (decimal n) byte w, length-decimal-le 3 n (omega arith) (omega arith) (omega arith))
 
 -- four fields make a line
 pub wrote-line : (a b c d : List ℕ) {t₀ t₁ t₂ t₃ t₄ : List ℕ} {p₀ p₁ p₂ p₃ p₄ : ℕ} → Wrote t₀ p₀ (closed a 32) t₁ p₁ → Wrote t₁ p₁ (closed b 32) t₂ p₂
@@ -34,16 +37,16 @@ unfolding line
 wrote-line a b c d w₁ w₂ w₃ w₄ = wrote-more w₁ (wrote-more w₂ (wrote-more w₃ w₄))
 
 -- the fields of a node's line
-pub wrote-node : (node k a nets l p b : ℕ) → l ≡ letter (kind_in k) → p ≡ place_in (kind_in k) a → b ≡ counted (kind_in k) nets → {t₀ t₁ t₂ t₃ t₄ : List ℕ} {p₀ p₁ p₂ p₃ p₄ : ℕ}
-    → Wrote t₀ p₀ (closed (decimal node) 32) t₁ p₁ → Wrote t₁ p₁ (closed (l ∷ []) 32) t₂ p₂ → Wrote t₂ p₂ (closed (decimal p) 32) t₃ p₃
-    → Wrote t₃ p₃ (closed (decimal b) 10) t₄ p₄ → Wrote t₀ p₀ (node_line node nets (entry k a)) t₄ p₄
-unfolding node_line
-wrote-node node k a nets l p b el ep eb {t₀} {t₁} {t₂} {t₃} {t₄} {p₀} {p₁} {p₂} {p₃} {p₄} w₁ w₂ w₃ w₄ =
-    let e : line (decimal node) (l ∷ []) (decimal p) (decimal b)
-    ≡ line (decimal node) (letter (kind_in k) ∷ []) (decimal (place_in (kind_in k) a)) (decimal (counted (kind_in k) nets)) =
-    ap₂ (λ (x y : ℕ). line (decimal node) (x ∷ []) (decimal p) (decimal y)) el eb
-    ∙ ap (λ (q : ℕ). line (decimal node) (letter (kind_in k) ∷ []) (decimal q) (decimal (counted (kind_in k) nets))) ep in
-    rw e at (wrote-line (decimal node) (l ∷ []) (decimal p) (decimal b) w₁ w₂ w₃ w₄)
+pub wrote-node : (i nets : ℕ) (e : Entry) {k : Kind} {a : ℕ} → k ≡ kind_at e → a ≡ above_at e → (l p b : ℕ) → l ≡ letter k → p ≡ place_in k a → b ≡ counted k nets
+    → {t₀ t₁ t₂ t₃ t₄ : List ℕ} {p₀ p₁ p₂ p₃ p₄ : ℕ} → Wrote t₀ p₀ (closed (decimal i) 32) t₁ p₁ → Wrote t₁ p₁ (closed (l ∷ []) 32) t₂ p₂
+    → Wrote t₂ p₂ (closed (decimal p) 32) t₃ p₃ → Wrote t₃ p₃ (closed (decimal b) 10) t₄ p₄ → Wrote t₀ p₀ (node_line i nets e) t₄ p₄
+unfolding node_line kind_at above_at
+wrote-node i nets (entry f a) ek ea l p b el ep eb w₁ w₂ w₃ w₄ =
+    let e : line (decimal i) (l ∷ []) (decimal p) (decimal b)
+    ≡ line (decimal i) (letter (kind_in f) ∷ []) (decimal (place_in (kind_in f) a)) (decimal (counted (kind_in f) nets)) =
+    ap₂ (λ (x y : ℕ). line (decimal i) (x ∷ []) (decimal p) (decimal y)) (el ∙ ap letter ek) (eb ∙ ap (λ (k : Kind). counted k nets) ek)
+    ∙ ap (λ (q : ℕ). line (decimal i) (letter (kind_in f) ∷ []) (decimal q) (decimal (counted (kind_in f) nets))) (ep ∙ ap₂ place_in ek ea) in
+    rw e at (wrote-line (decimal i) (l ∷ []) (decimal p) (decimal b) w₁ w₂ w₃ w₄)
 
 -- the lines of the first i nodes are put, after which so many nets are open
 pub record Through (fs text : List ℕ) (at i nets : ℕ) (text' : List ℕ) (end : ℕ) : Type 0 where

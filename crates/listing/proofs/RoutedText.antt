@@ -8,8 +8,9 @@ use native.Mathlib.Omega.{arith}
 use lib.ListN.{length, take, drop, replicate, length-append, length-replicate}
 use lib.Seq.{length-take-le}
 use lib.Dec.{ltb}
-use Rattle.rules.specs.declared.Routing.{Routing}
-use Rattle.rules.specs.declared.Routing.TheVariants.{Sheet, RowLength, Tracks, Lone, WorkShort, SheetShort, Stuck}
+use Rattle.std.specs.declared.result.Result.TheVariants.{Ok, Err}
+use Rattle.rules.specs.Answers.{Routing}
+use Rattle.rules.specs.declared.RouteError.TheVariants.{RowLength, Tracks, Lone, WorkShort, SheetShort, Stuck}
 use Rattle.rules.specs.Basic.{keep, or_else, settle}
 use Rattle.rules.specs.Row.{nodes}
 use Rattle.rules.specs.Street.{first, IsFirst}
@@ -44,7 +45,7 @@ unpacked-count {fields = fields} {n = n} r u = sym (length-take-le n fields (ome
 -- heading and the lines of its unpacked nodes are the sheet's text
 pub sheet-listing : {s fields text text' text'' : List ℕ} {n : ℕ} (ku kl : ℕ) {mid end : ℕ} → Readable s n → Unpacked s fields → ku ≡ upper_of s → kl ≡ lower_of s
     → Wrote text 0 (head_line n ku kl) text' mid → Wrote text' mid (node_lines 1 0 (entries_in (take n fields))) text'' end → end ≤ length text
-    → Listing (listed (Sheet n) s) text text'' end
+    → Listing (listed (Ok n) s) text text'' end
 unfolding listed
 sheet-listing {s} {fields} {n = n} ku kl r u eu el w₁ w₂ h =
     let e₁ : head_line n ku kl ≡ head_line n (upper_of s) (lower_of s) = ap₂ (head_line n) eu el in
@@ -59,7 +60,7 @@ answer-listing r r' s e l = rw e l
 
 -- a sheet is given only after checks 1 to 5
 module _ (row : List ℕ) (ku kl : ℕ) (work out : List ℕ) where
-  sheet-checked : (n : ℕ) → routing row ku kl work out ≡ Sheet n → Checked row ku kl work out
+  sheet-checked : (n : ℕ) → routing row ku kl work out ≡ Ok n → Checked row ku kl work out
   unfolding routing refusal settle or_else keep
   sheet-checked n e =
       go (wrong_count (length row)) (not (takes ku kl)) (ltb (first_lone row) (length row)) (ltb (length work) (90 * length row))
@@ -70,9 +71,9 @@ module _ (row : List ℕ) (ku kl : ℕ) (work out : List ℕ) where
 
       checks : (t₁ t₂ t₃ t₄ t₅ : Bool) → Option Routing
       checks t₁ t₂ t₃ t₄ t₅ =
-          or_else (keep t₁ RowLength) (or_else (keep t₂ Tracks) (or_else (keep t₃ (Lone (suc (first_lone row)))) (or_else (keep t₄ WorkShort) (keep t₅ SheetShort))))
+          or_else (keep t₁ (Err RowLength)) (or_else (keep t₂ (Err Tracks)) (or_else (keep t₃ (Err (Lone (suc (first_lone row))))) (or_else (keep t₄ (Err WorkShort)) (keep t₅ (Err SheetShort)))))
 
-      go : (t₁ t₂ t₃ t₄ t₅ : Bool) → settle (checks t₁ t₂ t₃ t₄ t₅) late ≡ Sheet n → checks t₁ t₂ t₃ t₄ t₅ ≡ none
+      go : (t₁ t₂ t₃ t₄ t₅ : Bool) → settle (checks t₁ t₂ t₃ t₄ t₅) late ≡ Ok n → checks t₁ t₂ t₃ t₄ t₅ ≡ none
       go true t₂ t₃ t₄ t₅ e = let z : ◌≡◌ {A = ℕ} 0 1 = cc in absurd (omega arith)
       go false true t₃ t₄ t₅ e = let z : ◌≡◌ {A = ℕ} 0 1 = cc in absurd (omega arith)
       go false false true t₄ t₅ e = let z : ◌≡◌ {A = ℕ} 0 1 = cc in absurd (omega arith)
@@ -94,9 +95,9 @@ module _ (row : List ℕ) (ku kl : ℕ) (work out : List ℕ) where
     sized : length (first_sheet row ku kl) ≡ size n
     ps : List ℕ
     first : IsFirst ku kl (nodes row) ps
-    text : listed (Sheet n) (first_sheet row ku kl) ≡ head_line n ku kl ++ node_lines 1 0 (entries (nodes row) ps)
+    text : listed (Ok n) (first_sheet row ku kl) ≡ head_line n ku kl ++ node_lines 1 0 (entries (nodes row) ps)
 
-  sheet-given : (n : ℕ) → routing row ku kl work out ≡ Sheet n → Given n
+  sheet-given : (n : ℕ) → routing row ku kl work out ≡ Ok n → Given n
   unfolding listed
   sheet-given n e = go (answered row ku kl work out (sheet-checked n e))
     where
@@ -113,7 +114,7 @@ module _ (row : List ℕ) (ku kl : ℕ) (work out : List ℕ) where
             ps = ps;
             first = f;
             text =
-                ap (listed (Sheet n)) s
+                ap (listed (Ok n)) s
                 ∙ ap₂ (λ (u v : ℕ). head_line n u v ++ node_lines 1 0 (entries_of (sheet ku kl (nodes row) ps))) l.upper l.lower
                 ∙ ap (λ (es : List Entry). head_line n ku kl ++ node_lines 1 0 es) l.nodes;
           }
@@ -122,11 +123,11 @@ module _ (row : List ℕ) (ku kl : ℕ) (work out : List ℕ) where
     abbrev S : List ℕ
     S = first_sheet row ku kl
 
-    behind : (n : ℕ) → r ≡ Sheet n → out' ≡ S ++ drop (length S) out
+    behind : (n : ℕ) → r ≡ Ok n → out' ≡ S ++ drop (length S) out
     unfolding sheet_after written
     behind n e = c.written ∙ ap (λ (q : Routing). sheet_after q row ku kl out) e
 
-    long : (n : ℕ) → r ≡ Sheet n → 2 ≤ length S
+    long : (n : ℕ) → r ≡ Ok n → 2 ≤ length S
     unfolding size
     long n e = omega (arith, (sheet-given n (sym c.answer ∙ e)).sized)
 
@@ -142,15 +143,15 @@ module _ (row : List ℕ) (ku kl : ℕ) (work out : List ℕ) where
 
     same_text : (q : Routing) → r ≡ q → listed q out' ≡ listed q S
     unfolding listed
-    same_text (Sheet n) e =
+    same_text (Ok n) e =
         let g = sheet-given n (sym c.answer ∙ e) in
-        ap (listed (Sheet n)) (behind n e) ∙ front-listed S (drop (length S) out) (omega (arith, g.sized, ap size g.count)) n
-    same_text RowLength e = refl
-    same_text Tracks e = refl
-    same_text (Lone i) e = refl
-    same_text WorkShort e = refl
-    same_text SheetShort e = refl
-    same_text (Stuck i) e = refl
+        ap (listed (Ok n)) (behind n e) ∙ front-listed S (drop (length S) out) (omega (arith, g.sized, ap size g.count)) n
+    same_text (Err RowLength) e = refl
+    same_text (Err Tracks) e = refl
+    same_text (Err (Lone i)) e = refl
+    same_text (Err WorkShort) e = refl
+    same_text (Err SheetShort) e = refl
+    same_text (Err (Stuck i)) e = refl
 
     -- only the lengths of the buffers matter
     same_answer : length work ≡ 46080 → length out ≡ 386 → r ≡ answer row ku kl
@@ -176,7 +177,7 @@ module _ {row : List ℕ} {ku kl : ℕ} {work out : List ℕ} {r : Routing} {wor
   routed-listing w o = text-listing (routed-text row ku kl work out r work' out' c w o)
 
 -- an accepted row is listed with the kinds and positions of its first placing
-pub accepted-text : (row : List ℕ) (ku kl n : ℕ) → answer row ku kl ≡ Sheet n
+pub accepted-text : (row : List ℕ) (ku kl n : ℕ) → answer row ku kl ≡ Ok n
     → (ps : List ℕ) × IsFirst ku kl (nodes row) ps × (row_text row ku kl ≡ head_line n ku kl ++ node_lines 1 0 (entries (nodes row) ps))
 unfolding answer row_text
 accepted-text row ku kl n e =

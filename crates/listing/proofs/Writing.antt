@@ -1,12 +1,13 @@
 -- Bytes that are put one after the other are put as one list, and bytes that are put at the start are written there.
 use mathlib.Core.Path.{◌≡◌, refl, sym, ap, ap₂, ◌∙◌}
 use mathlib.Core.List.{List, [], ◌∷◌, ◌++◌}
-use Prim.Native.Nat.{ℕ, suc, ◌+◌, ◌≤◌, ◌<◌}
+use Prim.Native.Nat.{ℕ, suc, ◌+◌, ◌-◌, ◌≤◌, ◌<◌}
 use native.Mathlib.Nat.{add-zero, zero-add}
-use native.Mathlib.Numerals.{add-one}
 use native.Mathlib.Omega.{arith}
-use lib.ListN.{length, get_or, set, take, drop, length-append, length-set}
-use lib.Seq.{sets, length-sets, sets-eq, take-suc, take_all, length-take-le}
+use lib.ListN.{length, set, take, drop, length-append}
+use lib.Seq.{sets, length-sets, sets-eq, drop-drop, length-take-le}
+use Rattle.std.proofs.lemmas.List.{append_assoc}
+use borrow.Rule.Slice.PartMut.{put_mid}
 use Rattle.rules.specs.Answers.{written}
 use Rattle.listing.specs.Text.{closed}
 use Rattle.listing.specs.Wrote.{Wrote, Listing, IsPrefixLen}
@@ -31,45 +32,18 @@ wrote-more {text} {text'} {text''} {a} {b} {at} {mid} {end} p q =
       ends = omega (arith, p.ends, q.ends, length-append a b);
     }
 
--- the first i bytes of a word are put
-pub record Words (text : List ℕ) (at : ℕ) (word text' : List ℕ) (i : ℕ) : Type 0 where
-  pub within : i ≤ length word
-  pub kept : length text' ≡ length text
-  pub is : text' ≡ sets text at (take i word)
-
-pub words-none : (text : List ℕ) (at : ℕ) (word : List ℕ) → Words text at word text 0
-words-none text at word = record { within = omega arith; kept = refl; is = refl }
-
-word_more : (text : List ℕ) (at : ℕ) (word text' : List ℕ) (i : ℕ) → i < length word → text' ≡ sets text at (take i word)
-    → set text' (at + i) (get_or word i 0) ≡ sets text at (take (i + 1) word)
-word_more text at word text' i h e =
-    let n : at + length (take i word) ≡ at + i = ap (λ (k : ℕ). at + k) (length-take-le i word (omega arith)) in
-    let here : sets text at (take i word ++ (get_or word i 0 ∷ [])) ≡ set (sets text at (take i word)) (at + length (take i word)) (get_or word i 0) =
-    sets-append (take i word) (get_or word i 0 ∷ []) text at in
-    ap (λ (t : List ℕ). set t (at + i) (get_or word i 0)) e
-    ∙ ap (λ (k : ℕ). set (sets text at (take i word)) k (get_or word i 0)) (sym n)
-    ∙ sym here
-    ∙ ap (sets text at) (sym (take-suc word i 0 h))
-    ∙ ap (λ (k : ℕ). sets text at (take k word)) (sym (add-one i))
-
-pub words_more : (text : List ℕ) (at : ℕ) (word text' : List ℕ) (i : ℕ) → i < length word → Words text at word text' i
-    → Words text at word (set text' (at + i) (get_or word i 0)) (i + 1)
-words_more text at word text' i h w =
-    record {
-      within = omega arith;
-      kept = length-set text' (at + i) (get_or word i 0) ∙ w.kept;
-      is = word_more text at word text' i h w.is;
-    }
-
--- the whole word is put, and the byte that ends it
-pub word-closed : (text : List ℕ) (at : ℕ) (word text' : List ℕ) (i end : ℕ) → i ≡ length word → text' ≡ sets text at (take i word)
-    → Wrote text at (closed word end) (set text' (at + i) end) (at + i + 1)
+-- a word is put over as many bytes, and then the byte that ends it
+pub word-closed : (text : List ℕ) (at : ℕ) (word : List ℕ) (end : ℕ) → at + length word < length text
+    → Wrote text at (closed word end) (set (put_mid at (at + length word - at) text word) (at + length word) end) (at + length word + 1)
 unfolding closed
-word-closed text at word text' i end h e =
-    let all : take i word ≡ word = take_all i word (omega arith) in
-    let here : sets text at (word ++ (end ∷ [])) ≡ set (sets text at word) (at + length word) end = sets-append word (end ∷ []) text at in
-    let is : set text' (at + i) end ≡ sets text at (word ++ (end ∷ [])) =
-    ap₂ (λ (t : List ℕ) (k : ℕ). set t (at + k) end) (e ∙ ap (sets text at) all) h ∙ sym here in
+word-closed text at word end h =
+    let k : at + length word - at ≡ length word = omega arith in
+    let over : put_mid at (at + length word - at) text word ≡ sets text at word =
+    ap (λ (l : List ℕ). take at text ++ (word ++ l)) (ap (λ (j : ℕ). drop j (drop at text)) k ∙ drop-drop (length word) at text)
+    ∙ sym (append_assoc (take at text) word (drop (at + length word) text))
+    ∙ sym (sets-eq word text at (omega arith)) in
+    let is : set (put_mid at (at + length word - at) text word) (at + length word) end ≡ sets text at (word ++ (end ∷ [])) =
+    ap (λ (t : List ℕ). set t (at + length word) end) over ∙ sym (sets-append word (end ∷ []) text at) in
     record {
       is = is;
       kept = ap length is ∙ length-sets text at (word ++ (end ∷ []));

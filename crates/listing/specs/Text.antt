@@ -1,21 +1,14 @@
 -- Document 01, 'Specimens', on `listrow`, with request 1's blanks: the text of the router's answer on an input, as bytes of ASCII.
-use Rattle.std.specs.Prelude.{List, [], ◌∷◌, ◌++◌, ℕ, zero, suc, ◌+◌, ◌*◌, ◌/◌, ◌%◌, replicate, eqb}
-use Rattle.rules.specs.declared.Routing.{Routing}
-use Rattle.rules.specs.Basic.{pick}
-use Rattle.rules.specs.Row.{Kind, B, M, E, N}
+use Rattle.std.specs.Prelude.{List, [], ◌∷◌, ◌++◌, ℕ, suc, ◌*◌, replicate}
+use Rattle.std.specs.Fmt.{decimal}
+use Rattle.std.specs.declared.result.Result.TheVariants.{Ok, Err}
+use Rattle.rules.specs.Answers.{Routing}
+use Rattle.rules.specs.declared.Kind.{Kind}
+use Rattle.rules.specs.declared.Kind.TheVariants.{B, M, E, N}
 use Rattle.rules.specs.Street.{counted}
 use Rattle.rules.specs.Sheet.{Entry, entry, kind_in, size, upper_of, lower_of, entries_of}
 use Rattle.rules.specs.Judgement.{left}
 use Rattle.rules.specs.Answers.{Said, route_said, routing, first_sheet}
-
--- the digits of n, none for 0; at most so many
-unfoldable pub leading : (most n : ℕ) → List ℕ
-leading zero n = []
-leading (suc k) n = pick (eqb n 0) [] (leading k (n / 10) ++ ((48 + n % 10) ∷ []))
-
--- n in decimal: no leading zeros, `0` for 0
-unfoldable pub decimal : ℕ → List ℕ
-decimal n = leading n (n / 10) ++ ((48 + n % 10) ∷ [])
 
 -- a field with the byte that ends it
 unfoldable pub closed : List ℕ → ℕ → List ℕ
@@ -72,13 +65,8 @@ refused_line s = line refused_word (decimal s.number) at_word (decimal s.place)
 
 -- the text of an answer, with the sheet that was written
 unfoldable pub listed : Routing → (s : List ℕ) → List ℕ
-listed (Routing.Sheet n) s = head_line n (upper_of s) (lower_of s) ++ node_lines 1 0 (entries_of s)
-listed Routing.RowLength s = refused_line (route_said Routing.RowLength)
-listed Routing.Tracks s = refused_line (route_said Routing.Tracks)
-listed (Routing.Lone i) s = refused_line (route_said (Routing.Lone i))
-listed Routing.WorkShort s = refused_line (route_said Routing.WorkShort)
-listed Routing.SheetShort s = refused_line (route_said Routing.SheetShort)
-listed (Routing.Stuck i) s = refused_line (route_said (Routing.Stuck i))
+listed (Ok n) s = head_line n (upper_of s) (lower_of s) ++ node_lines 1 0 (entries_of s)
+listed (Err e) s = refused_line (route_said (Err e))
 
 -- byte Ku, byte Kl, then the row; under two bytes, the empty row
 unfoldable pub upper_in : List ℕ → ℕ

@@ -1,7 +1,8 @@
 -- What the parts of a listing ask and give: bytes put at a place of the text, and the place behind them.
 use Rattle.std.specs.Prelude.{◌≡◌, List, ℕ, ◌+◌, ◌≤◌, length, take}
 use Rattle.std.proofs.lemmas.List.Edits.{sets}
-use Rattle.rules.specs.declared.Routing.{Routing}
+use Rattle.std.specs.declared.result.Result.TheVariants.{Ok}
+use Rattle.rules.specs.Answers.{Routing}
 use Rattle.rules.specs.Sheet.{size, count_of}
 use Rattle.rules.specs.Answers.{written}
 
@@ -19,7 +20,7 @@ pub record Readable (s : List ℕ) (n : ℕ) : Type 0 where
 
 -- an answer that can be listed: one that names a sheet comes with it
 abbrev pub Listable : Routing → List ℕ → Type 0
-Listable r s = (n : ℕ) → r ≡ Routing.Sheet n → Readable s n
+Listable r s = (n : ℕ) → r ≡ Ok n → Readable s n
 
 -- a listing's text is at the start of its buffer, and the rest is untouched
 pub record Listing (new text text' : List ℕ) (end : ℕ) : Type 0 where

@@ -1,15 +1,15 @@
 // The text of the router's answer: the whole job of `listrow` between its input and its output.
 #![tactic(auto)]
 
-mod digits;
 mod nodes;
 mod put;
 
-ghost use Rattle.std.specs.Prelude.{◌≤◌, ◌<◌, length};
+ghost use Rattle.std.specs.Prelude.{◌≤◌, ◌<◌, length, Ok};
 ghost use Rattle.rules.specs.Answers.{says};
 ghost use Rattle.listing.specs.Text.{head_line, refused_line, listed, row_text, input_text};
 ghost use Rattle.listing.specs.Wrote.{Wrote, Readable, Listable, Listing, IsPrefixLen};
 
+use answers::Said;
 use nodes::list_nodes;
 use put::{put_number, put_word};
 use rules::Routing;
@@ -31,26 +31,22 @@ fn route_and_list(row: &[u8], ku: u8, kl: u8, text: &mut [u8]) -> usize
     requires { 8256 ≤ length text.old }
     ensures { Listing (row_text row.now ku kl) text.old text.new result }
 {
+    // As many bytes as the router can ask for: there is no heap.
     let mut work = [0u8; 46080];
     let mut sheet = [0u8; 386];
     let answer = router::route(row, ku, kl, &mut work, &mut sheet);
     list_answer(answer, &sheet, text)
 }
 
-// The text of an answer, with the sheet where it names one. It stands at the start of its buffer; its length is returned.
+// The text of an answer, with the sheet where it is one. It stands at the start of its buffer; its length is returned.
 pub fn list_answer(answer: Routing, sheet: &[u8], text: &mut [u8]) -> usize
     requires listable { Listable answer sheet.now }
     requires in_bounds { 8256 ≤ length text.old }
     ensures { Listing (listed answer sheet.now) text.old text.new result }
 {
     match answer {
-        Routing::Sheet(n) => list_sheet(n, sheet, text),
-        Routing::RowLength => list_refusal(1, 0, text),
-        Routing::Tracks => list_refusal(2, 0, text),
-        Routing::Lone(i) => list_refusal(3, i, text),
-        Routing::WorkShort => list_refusal(4, 0, text),
-        Routing::SheetShort => list_refusal(5, 0, text),
-        Routing::Stuck(i) => list_refusal(6, i, text),
+        Ok(n) => list_sheet(n, sheet, text),
+        Err(_) => list_refusal(Said::from(answer), text),
     }
 }
 
@@ -58,8 +54,9 @@ pub fn list_answer(answer: Routing, sheet: &[u8], text: &mut [u8]) -> usize
 fn list_sheet(n: usize, sheet: &[u8], text: &mut [u8]) -> usize
     requires readable { Readable sheet.now n }
     requires in_bounds { 8256 ≤ length text.old }
-    ensures { Listing (listed (Routing.Sheet n) sheet.now) text.old text.new result }
+    ensures { Listing (listed (Ok n) sheet.now) text.old text.new result }
 {
+    // A byte for each node that a sheet can have: there is no heap.
     let mut fields = [0u8; 512];
     unpack(sheet, n, &mut fields);
     let ku = upper_of(sheet) as usize;
@@ -80,12 +77,12 @@ fn list_head(n: usize, ku: usize, kl: usize, text: &mut [u8]) -> usize
 }
 
 // `refused`, number, `at`, place.
-fn list_refusal(number: usize, place: usize, text: &mut [u8]) -> usize
-    requires { (number ≤ 512) × (64 ≤ length text.old) }
-    ensures { Listing (refused_line (says number place)) text.old text.new result }
+fn list_refusal(said: Said, text: &mut [u8]) -> usize
+    requires { 64 ≤ length text.old }
+    ensures { Listing (refused_line (says said.number said.place)) text.old text.new result }
 {
     let a = put_word(text, 0, b"refused", b' ');
-    let b = put_number(text, a, number, b' ');
+    let b = put_number(text, a, said.number as usize, b' ');
     let c = put_word(text, b, b"at", b' ');
-    put_number(text, c, place, b'\n')
+    put_number(text, c, said.place, b'\n')
 }

@@ -1,34 +1,20 @@
--- `listing::list_answer` meets its contract: each answer has its number and place. Assumes nothing.
+-- `listing::list_answer` meets its contract: a refusal has its number and place. Assumes nothing.
 use borrow.Author.Rules.{rules}
-use Rattle.rules.specs.declared.Routing.TheVariants.{RowLength, Tracks, Lone, WorkShort, SheetShort, Stuck}
+use mathlib.Core.Path.{ap, ◌∙◌}
+use Rattle.std.specs.declared.result.Result.TheVariants.{Err}
 use Rattle.rules.specs.Answers.{route_said}
-use Rattle.listing.specs.Text.{listed}
+use Rattle.listing.specs.Text.{listed, refused_line}
+use Rattle.listing.specs.Wrote.{Listing}
 use Rattle.listing.proofs.RoutedText.{answer-listing}
 use Rattle.listing.proofs.list_answer.Goals as goal
 
 pub list_sheet-requires : goal.list_sheet-requires
-list_sheet-requires c = record { readable = c.requires.listable c.in-Sheet.n c.in-Sheet.is; in_bounds = search rules }
+list_sheet-requires c = record { readable = c.requires.listable c.in-Ok.n c.in-Ok.is; in_bounds = search rules }
 
-pub returns-in-RowLength : goal.returns-in-RowLength
-unfolding listed route_said
-returns-in-RowLength c = answer-listing c.args.answer RowLength c.args.sheet.now c.in-RowLength.is c.list_refusal.ensures
-
-pub returns-in-Tracks : goal.returns-in-Tracks
-unfolding listed route_said
-returns-in-Tracks c = answer-listing c.args.answer Tracks c.args.sheet.now c.in-Tracks.is c.list_refusal-in-Tracks.ensures
-
-pub returns-in-Lone : goal.returns-in-Lone
-unfolding listed route_said
-returns-in-Lone c = answer-listing c.args.answer (Lone c.in-Lone.i) c.args.sheet.now c.in-Lone.is c.list_refusal-in-Lone.ensures
-
-pub returns-in-WorkShort : goal.returns-in-WorkShort
-unfolding listed route_said
-returns-in-WorkShort c = answer-listing c.args.answer WorkShort c.args.sheet.now c.in-WorkShort.is c.list_refusal-in-WorkShort.ensures
-
-pub returns-in-SheetShort : goal.returns-in-SheetShort
-unfolding listed route_said
-returns-in-SheetShort c = answer-listing c.args.answer SheetShort c.args.sheet.now c.in-SheetShort.is c.list_refusal-in-SheetShort.ensures
-
-pub returns-in-Stuck : goal.returns-in-Stuck
-unfolding listed route_said
-returns-in-Stuck c = answer-listing c.args.answer (Stuck c.in-Stuck.i) c.args.sheet.now c.in-Stuck.is c.list_refusal-in-Stuck.ensures
+pub returns-in-Err : goal.returns-in-Err
+unfolding listed
+returns-in-Err c =
+    let a = c.args in
+    let l : Listing (refused_line (route_said (Err c.in-Err.field-0))) a.text.now c.list_refusal.new.text c.list_refusal.result =
+    rw (c.from.ensures ∙ ap route_said c.in-Err.is) at c.list_refusal.ensures in
+    answer-listing a.answer (Err c.in-Err.field-0) a.sheet.now c.in-Err.is l

@@ -1,6 +1,7 @@
 -- `listing::list_head` meets its contract: four fields make the line. Assumes nothing.
 use native.Mathlib.Omega.{arith}
-use Rattle.listing.specs.Text.{decimal, sheet_word, head_line}
+use Rattle.std.specs.Fmt.{decimal}
+use Rattle.listing.specs.Text.{sheet_word, head_line}
 use Rattle.listing.proofs.Lines.{word-ends, number-ends, wrote-line}
 use Rattle.listing.proofs.list_head.Goals as goal
 
