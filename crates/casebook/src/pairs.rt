@@ -1,38 +1,39 @@
 // The row aabbcc.. with labels from 0 to 254 and then two blanks, the sheet of 256 nets, and what documents 01 and 02 make of them under 1/0: every net stands alone on
 // track 1, from its first node to the next.
-ghost use Rattle.std.specs.Prelude.{◌<◌};
+use std::array;
 
-// What a buffer is to hold.
-#[derive(Clone, Copy)]
-pub enum Pairs {
-    // The row.
-    Row,
-    // The input of `listrow`: 1, 0 and the row.
-    Input,
-    // The row's sheet.
-    Sheet,
-    // The sheet of 256 nets, which no row has.
-    Nets,
-    // The film of 256 nets: for each the stubs at its two nodes, and the horizontal between them.
-    Film,
+// The first N bytes of the row.
+pub fn row<const N: usize>() -> [u8; N] {
+    array::from_fn(label)
 }
 
-pub fn write_pairs(what: Pairs, buffer: &mut [u8]) {
-    let mut i = 0;
-    while i < buffer.len() {
-        buffer[i] = byte_at(what, i);
-        i += 1;
-    }
+// The first N bytes of the input of `listrow`: 1, 0 and the row.
+pub fn input<const N: usize>() -> [u8; N] {
+    array::from_fn(|i| match i {
+        0 => 1,
+        1 => 0,
+        _ => label(i - 2),
+    })
 }
 
-fn byte_at(what: Pairs, i: usize) -> u8 {
-    match what {
-        Pairs::Row => label(i),
-        Pairs::Input => input_byte(i),
-        Pairs::Sheet => sheet_byte(i),
-        Pairs::Nets => nets_byte(i),
-        Pairs::Film => film_byte(i),
-    }
+// The first N bytes of the row's sheet. The last two nodes are blanks, with s 0: the 12 bits c30.
+pub fn sheet<const N: usize>() -> [u8; N] {
+    array::from_fn(|i| match i {
+        384 => 0x0c,
+        385 => 0x30,
+        _ => nets_byte(i),
+    })
+}
+
+// The first N bytes of the sheet of 256 nets, which no row has.
+pub fn nets<const N: usize>() -> [u8; N] {
+    array::from_fn(nets_byte)
+}
+
+// The first N bytes of the film of 256 nets: for each the stubs at its two nodes, and the horizontal between them. Five bytes a record, the most
+// significant first.
+pub fn film<const N: usize>() -> [u8; N] {
+    array::from_fn(|i| record(i / 5).to_be_bytes()[3 + i % 5])
 }
 
 // The label of the node behind i others; that of the last two of 512 is 255, a blank.
@@ -40,49 +41,12 @@ fn label(i: usize) -> u8 {
     (i / 2 % 256) as u8
 }
 
-fn input_byte(i: usize) -> u8 {
-    match i {
-        0 => 1,
-        1 => 0,
-        _ => label(i - 2),
-    }
-}
-
-// The last two nodes are blanks, with s 0: the 12 bits c30.
-fn sheet_byte(i: usize) -> u8 {
-    match i {
-        384 => 0x0c,
-        385 => 0x30,
-        _ => nets_byte(i),
-    }
-}
-
 // Ku 1, Kl 0 and 512 are 12 00; B at p 1 and E at p 1 are the 12 bits 020.
 fn nets_byte(i: usize) -> u8 {
     match i {
         0 => 0x12,
         1 => 0,
-        _ => pair_byte(i % 3),
-    }
-}
-
-fn pair_byte(i: usize) -> u8 {
-    match i {
-        2 => 0x02,
-        0 => 0,
-        _ => 0x20,
-    }
-}
-
-// Five bytes a record, the most significant first.
-fn film_byte(i: usize) -> u8 {
-    let value = record(i / 5);
-    match i % 5 {
-        0 => (value / 4294967296 % 256) as u8,
-        1 => (value / 16777216 % 256) as u8,
-        2 => (value / 65536 % 256) as u8,
-        3 => (value / 256 % 256) as u8,
-        _ => (value % 256) as u8,
+        _ => [0, 0x20, 0x02][i % 3],
     }
 }
 
@@ -92,16 +56,16 @@ fn record(k: usize) -> u64 {
         return 0;
     }
     let net = k as u64 / 3;
+    let left = 32 * net;
+    let right = left + 16;
     match k % 3 {
-        0 => stub(net, 32 * net),
-        1 => stub(net, 32 * net + 16),
-        _ => net * 2147483648 + 5 * 134217728 + 32 * net * 16384 + (32 * net + 16) * 2,
+        0 => stub(net, left),
+        1 => stub(net, right),
+        _ => net << 31 | 5 << 27 | left << 14 | right << 1,
     }
 }
 
 // A vertical from level 0 to level 1.
-fn stub(net: u64, column: u64) -> u64
-    requires { (net < 256) × (column < 8192) }
-{
-    549755813888 + net * 2147483648 + 4 * 134217728 + column * 16384 + 5 * 1024
+fn stub(net: u64, column: u64) -> u64 {
+    1 << 39 | net << 31 | 4 << 27 | column << 14 | 5 << 10
 }

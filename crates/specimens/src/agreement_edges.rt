@@ -1,21 +1,17 @@
 // Edges of the agreement test. A line is `name row sheet`.
-use casebook::{Asked, Tally, ask};
+use casebook::{Asked, Casebook};
 use std::io;
 
 // Labels carry no meaning, and lengths, nets and pins do.
-pub fn agreements(rt: &impl Print, tally: Tally) -> io::Result<Tally> {
-    let tally = ask(
-        rt,
-        tally,
+pub fn agreements(book: &mut Casebook<'_, impl Print>) -> io::Result<()> {
+    book.ask(
         Asked::Agreement(true),
         b"
 same-labels abab 1404000860
 other-labels zyzy 1404000860
 ",
     )?;
-    ask(
-        rt,
-        tally,
+    book.ask(
         Asked::Agreement(false),
         b"
 other-pins aabb 1404000860
@@ -28,10 +24,8 @@ shorter-row aba 1404000860
 }
 
 // Empty inputs and damaged sheets have no row that agrees.
-pub fn no_agreements(rt: &impl Print, tally: Tally) -> io::Result<Tally> {
-    ask(
-        rt,
-        tally,
+pub fn no_agreements(book: &mut Casebook<'_, impl Print>) -> io::Result<()> {
+    book.ask(
         Asked::Agreement(false),
         b"
 empty-row-and-sheet - -

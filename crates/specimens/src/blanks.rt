@@ -1,21 +1,17 @@
 // Rows and sheets with blanks: byte FF in a row, kind 3 in a sheet. A line says what is asked, the bytes that are lent, and what is wanted (casebook).
-use casebook::{Asked, Tally, ask};
+use casebook::{Asked, Casebook};
 use std::io;
 
 // Rows with the smallest s at each blank: the first two routed, read back, agreed on and drawn, round a blank and of blanks alone.
-pub fn rows(rt: &impl Print, tally: Tally) -> io::Result<Tally> {
-    let tally = ask(
-        rt,
-        tally,
+pub fn rows(book: &mut Casebook<'_, impl Print>) -> io::Result<()> {
+    book.ask(
         Asked::Whole,
         b"
 a_a a\xffa 1 1 2000 100 0 3 1403030800 100 0 3 00ff00 1000 0 7 8020001400002800000280180054000018004022801804540000280440408020081400
 __ \xff\xff 0 0 180 4 0 2 0002c300 2 0 2 ffff 0 0 0 -
 ",
     )?;
-    ask(
-        rt,
-        tally,
+    book.ask(
         Asked::Router,
         b"
 _a_a_ \xffa\xffa\xff 1 1 450 6 0 5 1405c00c20c0
@@ -26,10 +22,8 @@ abcdef_fedcba abcdef\xfffedcba 3 3 1170 12 0 13 3c0d000000042ce286082080
 }
 
 // Check 3 spares a blank, 6 is given at none, and buffers are measured with the blanks.
-pub fn refused_rows(rt: &impl Print, tally: Tally) -> io::Result<Tally> {
-    ask(
-        rt,
-        tally,
+pub fn refused_rows(book: &mut Casebook<'_, impl Print>) -> io::Result<()> {
+    book.ask(
         Asked::Router,
         b"
 _a \xffa 1 1 1000 100 3 2 -
@@ -45,10 +39,8 @@ sheet-short \xff\xff 0 0 180 3 5 0 -
 }
 
 // Any legal s is read and drawn; 16, 17 and 30 at a blank.
-pub fn sheets(rt: &impl Print, tally: Tally) -> io::Result<Tally> {
-    let tally = ask(
-        rt,
-        tally,
+pub fn sheets(book: &mut Casebook<'_, impl Print>) -> io::Result<()> {
+    book.ask(
         Asked::Reader,
         b"
 s-0-of-1 1403030800 3 0 3 00ff00
@@ -63,9 +55,7 @@ row-short 0002c300 1 14 0 -
 padding 0002c301 100 19 0 -
 ",
     )?;
-    ask(
-        rt,
-        tally,
+    book.ask(
         Asked::Drawer,
         b"
 s-1-of-1 1403031800 15 0 3 802000140000280000408020081400
@@ -79,10 +69,8 @@ __ 0002c300 0 0 0 -
 }
 
 // The same blanks are asked for, and any label stands for a net but FF.
-pub fn agreements(rt: &impl Print, tally: Tally) -> io::Result<Tally> {
-    let tally = ask(
-        rt,
-        tally,
+pub fn agreements(book: &mut Casebook<'_, impl Print>) -> io::Result<()> {
+    book.ask(
         Asked::Agreement(true),
         b"
 a_a a\xffa 1403030800
@@ -91,9 +79,7 @@ label-254 \xfe\xff\xfe 1403030800
 __ \xff\xff 0002c300
 ",
     )?;
-    ask(
-        rt,
-        tally,
+    book.ask(
         Asked::Agreement(false),
         b"
 no-blank aba 1403030800

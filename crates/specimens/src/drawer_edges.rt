@@ -1,12 +1,10 @@
 // Edges of the drawer. A line is `name sheet size number place wanted`: `size` is the bytes that are lent for the film.
-use casebook::{Asked, Tally, ask};
+use casebook::{Asked, Casebook};
 use std::io;
 
 // Empty and short sheets; node counts 0, 1, 2, 513 and 1023; films exact and one byte short.
-pub fn sizes(rt: &impl Print, tally: Tally) -> io::Result<Tally> {
-    ask(
-        rt,
-        tally,
+pub fn sizes(book: &mut Casebook<'_, impl Print>) -> io::Result<()> {
+    book.ask(
         Asked::Drawer,
         b"
 empty - 1000 11 0 -
@@ -23,10 +21,8 @@ one-long 1002020000 1000 13 0 -
 }
 
 // Track counts of 3, 4 and 15; films exact and one byte short.
-pub fn streets_and_films(rt: &impl Print, tally: Tally) -> io::Result<Tally> {
-    ask(
-        rt,
-        tally,
+pub fn streets_and_films(book: &mut Casebook<'_, impl Print>) -> io::Result<()> {
+    book.ask(
         Asked::Drawer,
         b"
 Ku-3 30020200 1000 0 3 802000140080200414000028000020
@@ -43,10 +39,8 @@ film-short-for-8 1404000860 39 21 0 -
 }
 
 // Each fault of a sheet with no film lent: it is given before 21.
-pub fn faults(rt: &impl Print, tally: Tally) -> io::Result<Tally> {
-    ask(
-        rt,
-        tally,
+pub fn faults(book: &mut Casebook<'_, impl Print>) -> io::Result<()> {
+    book.ask(
         Asked::Drawer,
         b"
 E-behind-a-blank 1002c200 0 16 2 -
@@ -66,10 +60,8 @@ padding 10020208 0 19 0 -
 }
 
 // Several causes at once, with no film lent.
-pub fn causes_in_turn(rt: &impl Print, tally: Tally) -> io::Result<Tally> {
-    ask(
-        rt,
-        tally,
+pub fn causes_in_turn(book: &mut Casebook<'_, impl Print>) -> io::Result<()> {
+    book.ask(
         Asked::Drawer,
         b"
 11-before-12 4001 0 11 0 -

@@ -11,56 +11,57 @@ mod router_edges;
 mod specimens;
 mod worked;
 
-use casebook::{Tally, print_tally, start};
+use casebook::Casebook;
 use std::io;
 
 fn main(rt: HostRuntime) -> io::Result<()> {
     rt.write_all(
         b"whom, case: number at place, bytes written; then whether answer and every byte lent are what documents 01 and 02 say\n",
     )?;
-    let tally = named(&rt, start())?;
-    let tally = router_and_reader(&rt, tally)?;
-    let tally = drawer_and_agreement(&rt, tally)?;
-    let tally = listed(&rt, tally)?;
-    print_tally(&rt, tally)
+    let mut book = Casebook::new(&rt);
+    named(&mut book)?;
+    router_and_reader(&mut book)?;
+    drawer_and_agreement(&mut book)?;
+    listed(&mut book)?;
+    book.print_counts()
 }
 
-fn named(rt: &impl Print, tally: Tally) -> io::Result<Tally> {
-    let tally = specimens::accepted_rows(rt, tally)?;
-    let tally = specimens::refused_rows(rt, tally)?;
-    let tally = specimens::refused_sheets(rt, tally)?;
-    let tally = blanks::rows(rt, tally)?;
-    let tally = blanks::refused_rows(rt, tally)?;
-    let tally = blanks::sheets(rt, tally)?;
-    let tally = blanks::agreements(rt, tally)?;
-    worked::net_lists(rt, tally)
+fn named(book: &mut Casebook<'_, impl Print>) -> io::Result<()> {
+    specimens::accepted_rows(book)?;
+    specimens::refused_rows(book)?;
+    specimens::refused_sheets(book)?;
+    blanks::rows(book)?;
+    blanks::refused_rows(book)?;
+    blanks::sheets(book)?;
+    blanks::agreements(book)?;
+    worked::net_lists(book)
 }
 
-fn router_and_reader(rt: &impl Print, tally: Tally) -> io::Result<Tally> {
-    let tally = router_edges::rows_and_streets(rt, tally)?;
-    let tally = router_edges::buffers(rt, tally)?;
-    let tally = router_edges::causes_in_turn(rt, tally)?;
-    let tally = reader_edges::sizes(rt, tally)?;
-    let tally = reader_edges::streets_and_rows(rt, tally)?;
-    let tally = reader_edges::faults(rt, tally)?;
-    reader_edges::causes_in_turn(rt, tally)
+fn router_and_reader(book: &mut Casebook<'_, impl Print>) -> io::Result<()> {
+    router_edges::rows_and_streets(book)?;
+    router_edges::buffers(book)?;
+    router_edges::causes_in_turn(book)?;
+    reader_edges::sizes(book)?;
+    reader_edges::streets_and_rows(book)?;
+    reader_edges::faults(book)?;
+    reader_edges::causes_in_turn(book)
 }
 
-fn drawer_and_agreement(rt: &impl Print, tally: Tally) -> io::Result<Tally> {
-    let tally = drawer_edges::sizes(rt, tally)?;
-    let tally = drawer_edges::streets_and_films(rt, tally)?;
-    let tally = drawer_edges::faults(rt, tally)?;
-    let tally = drawer_edges::causes_in_turn(rt, tally)?;
-    let tally = agreement_edges::agreements(rt, tally)?;
-    agreement_edges::no_agreements(rt, tally)
+fn drawer_and_agreement(book: &mut Casebook<'_, impl Print>) -> io::Result<()> {
+    drawer_edges::sizes(book)?;
+    drawer_edges::streets_and_films(book)?;
+    drawer_edges::faults(book)?;
+    drawer_edges::causes_in_turn(book)?;
+    agreement_edges::agreements(book)?;
+    agreement_edges::no_agreements(book)
 }
 
-fn listed(rt: &impl Print, tally: Tally) -> io::Result<Tally> {
-    let tally = long::most_nodes(rt, tally)?;
-    let tally = long::most_nets(rt, tally)?;
-    let tally = long::too_many_nodes(rt, tally)?;
-    let tally = listings::short_inputs(rt, tally)?;
-    let tally = listings::blank_inputs(rt, tally)?;
-    let tally = listings::refused_inputs(rt, tally)?;
-    listings::long_inputs(rt, tally)
+fn listed(book: &mut Casebook<'_, impl Print>) -> io::Result<()> {
+    long::most_nodes(book)?;
+    long::most_nets(book)?;
+    long::too_many_nodes(book)?;
+    listings::short_inputs(book)?;
+    listings::blank_inputs(book)?;
+    listings::refused_inputs(book)?;
+    listings::long_inputs(book)
 }

@@ -1,12 +1,10 @@
 // Edges of the reader. A line is `name sheet size number place wanted`: `size` is the bytes that are lent for the row.
-use casebook::{Asked, Tally, ask};
+use casebook::{Asked, Casebook};
 use std::io;
 
 // Empty and short sheets; node counts 0, 1, 2, 513 and 1023.
-pub fn sizes(rt: &impl Print, tally: Tally) -> io::Result<Tally> {
-    ask(
-        rt,
-        tally,
+pub fn sizes(book: &mut Casebook<'_, impl Print>) -> io::Result<()> {
+    book.ask(
         Asked::Reader,
         b"
 empty - 100 11 0 -
@@ -24,10 +22,8 @@ head-alone 1002 100 13 0 -
 }
 
 // Track counts of 3, 4 and 15; row buffers exact and one byte short.
-pub fn streets_and_rows(rt: &impl Print, tally: Tally) -> io::Result<Tally> {
-    ask(
-        rt,
-        tally,
+pub fn streets_and_rows(book: &mut Casebook<'_, impl Print>) -> io::Result<()> {
+    book.ask(
         Asked::Reader,
         b"
 Ku-3 30020200 100 0 2 0000
@@ -44,10 +40,8 @@ row-short-for-4 1404000860 3 14 0 -
 }
 
 // Each fault of a node, each limit, nets left open, padding.
-pub fn faults(rt: &impl Print, tally: Tally) -> io::Result<Tally> {
-    ask(
-        rt,
-        tally,
+pub fn faults(book: &mut Casebook<'_, impl Print>) -> io::Result<()> {
+    book.ask(
         Asked::Reader,
         b"
 E-behind-a-blank 1002c200 100 16 2 -
@@ -67,10 +61,8 @@ padding 10020208 100 19 0 -
 }
 
 // Several causes at once: the earliest test decides, and of two nodes the left one.
-pub fn causes_in_turn(rt: &impl Print, tally: Tally) -> io::Result<Tally> {
-    ask(
-        rt,
-        tally,
+pub fn causes_in_turn(book: &mut Casebook<'_, impl Print>) -> io::Result<()> {
+    book.ask(
         Asked::Reader,
         b"
 11-before-12 4001 100 11 0 -

@@ -1,12 +1,10 @@
 // Edges of the router. A line is `name row Ku Kl work sheet number place wanted`: `work` and `sheet` are the bytes that are lent.
-use casebook::{Asked, Tally, ask};
+use casebook::{Asked, Casebook};
 use std::io;
 
 // Rows of 0, 1 and 2 nodes; streets of 3, 4 and 255 tracks.
-pub fn rows_and_streets(rt: &impl Print, tally: Tally) -> io::Result<Tally> {
-    ask(
-        rt,
-        tally,
+pub fn rows_and_streets(book: &mut Casebook<'_, impl Print>) -> io::Result<()> {
+    book.ask(
         Asked::Router,
         b"
 row-of-0 - 1 0 1000 100 1 0 -
@@ -24,10 +22,8 @@ streets-of-3 aa 3 3 1000 100 0 2 3c020200
 }
 
 // Buffers exact and one byte short, of 2 to 5 nodes: the four lengths of padding.
-pub fn buffers(rt: &impl Print, tally: Tally) -> io::Result<Tally> {
-    ask(
-        rt,
-        tally,
+pub fn buffers(book: &mut Casebook<'_, impl Print>) -> io::Result<()> {
+    book.ask(
         Asked::Router,
         b"
 exact-for-2 aa 1 0 180 4 0 2 10020200
@@ -47,10 +43,8 @@ sheet-short-for-5 aaaaa 1 0 450 5 5 0 -
 }
 
 // Two causes at once: the smaller number is given.
-pub fn causes_in_turn(rt: &impl Print, tally: Tally) -> io::Result<Tally> {
-    ask(
-        rt,
-        tally,
+pub fn causes_in_turn(book: &mut Casebook<'_, impl Print>) -> io::Result<()> {
+    book.ask(
         Asked::Router,
         b"
 no-bytes-lent - 1 0 0 0 1 0 -

@@ -1,12 +1,10 @@
 // S1 to S12 of document 01, S12 with request 6's number, with more bytes lent than are needed. A line says what is asked, the bytes that are lent, and what is wanted (casebook).
-use casebook::{Asked, Tally, ask};
+use casebook::{Asked, Casebook};
 use std::io;
 
 // Routed, read back, agreed on and drawn.
-pub fn accepted_rows(rt: &impl Print, tally: Tally) -> io::Result<Tally> {
-    ask(
-        rt,
-        tally,
+pub fn accepted_rows(book: &mut Casebook<'_, impl Print>) -> io::Result<()> {
+    book.ask(
         Asked::Whole,
         b"
 S1 aa 1 0 2000 100 0 2 10020200 100 0 2 0000 1000 0 3 802000140080200414000028000020
@@ -18,10 +16,8 @@ S8 abcabcabc 2 2 2000 100 0 9 28090000124508a180 100 0 9 000102000102000102 1000
     )
 }
 
-pub fn refused_rows(rt: &impl Print, tally: Tally) -> io::Result<Tally> {
-    ask(
-        rt,
-        tally,
+pub fn refused_rows(book: &mut Casebook<'_, impl Print>) -> io::Result<()> {
+    book.ask(
         Asked::Router,
         b"
 S2 aa 0 0 1000 100 6 1 -
@@ -33,28 +29,22 @@ S10 aab 1 1 1000 100 3 3 -
     )
 }
 
-pub fn refused_sheets(rt: &impl Print, tally: Tally) -> io::Result<Tally> {
-    let tally = ask(
-        rt,
-        tally,
+pub fn refused_sheets(book: &mut Casebook<'_, impl Print>) -> io::Result<()> {
+    book.ask(
         Asked::Reader,
         b"
 S11 10020201 100 19 0 -
 S12 10020000 100 30 2 -
 ",
     )?;
-    let tally = ask(
-        rt,
-        tally,
+    book.ask(
         Asked::Drawer,
         b"
 S11 10020201 1000 19 0 -
 S12 10020000 1000 30 2 -
 ",
     )?;
-    ask(
-        rt,
-        tally,
+    book.ask(
         Asked::Agreement(false),
         b"
 S11 aa 10020201

@@ -1,12 +1,10 @@
 // Worked net lists of the source documents, routed, read back, agreed on and drawn. Wanted rows and films were computed by another implementation.
-use casebook::{Asked, Tally, ask};
+use casebook::{Asked, Casebook};
 use std::io;
 
 // Those of document 000 whose streets are at most 3, and one of document 003.
-pub fn net_lists(rt: &impl Print, tally: Tally) -> io::Result<Tally> {
-    ask(
-        rt,
-        tally,
+pub fn net_lists(book: &mut Casebook<'_, impl Print>) -> io::Result<()> {
+    book.ask(
         Asked::Whole,
         b"
 document-000-figure-2 abcdecabde 2 3 2000 100 0 10 2c0a0010000628a28200 100 0 10 00010203040200010304 1000 0 41 80200014000028000002802800580080a004140000a804002280900454000030004024801804980081200814000090044042808808480000180480448010088c000128080046811808d40081a00c140001a80c006281a80c580082201014008118141000011808c0a000100880a28010144c0000880840a48088148800801818100000181440c000901480c28090184c0080981c100000981840e002281000e282181c540001b00c40e481a81c980081a020140001a81c810002181c4102821820540082202414000228204120

@@ -1,0 +1,109 @@
+// The cases that are asked: each is printed and counted.
+use crate::agreement::agreement_case;
+use crate::routing::router_case;
+use crate::sheets::{Drawer, Reader, sheet_case};
+use fields::field;
+use std::fmt::Display;
+use std::io;
+
+// Whom the lines of a text ask.
+#[derive(Clone, Copy)]
+pub enum Asked {
+    Router,
+    Reader,
+    Drawer,
+    // The agreement test, which is to answer this.
+    Agreement(bool),
+    // All of them: a row is routed, read back, agreed on and drawn. Behind the router's fields stand `size number place wanted` of the reader, and then of
+    // the drawer.
+    Whole,
+}
+
+// Prints cases, and counts how many were asked, and how many of them had an answer or a byte that differs from what is wanted.
+#[derive(Drop)]
+pub struct Casebook<'a, P: Print> {
+    rt: &'a P,
+    cases: u64,
+    wrong: u64,
+}
+
+impl<'a, P: Print> Casebook<'a, P> {
+    pub fn new(rt: &'a P) -> Self {
+        Casebook {
+            rt,
+            cases: 0,
+            wrong: 0,
+        }
+    }
+
+    // Asks the case of each line of a text; an empty line has none.
+    pub fn ask(&mut self, asked: Asked, text: &[u8]) -> io::Result<()> {
+        for line in text.split(|byte| *byte == b'\n') {
+            if !line.is_empty() {
+                self.ask_line(asked, line)?;
+            }
+        }
+        Ok(())
+    }
+
+    fn ask_line(&mut self, asked: Asked, line: &[u8]) -> io::Result<()> {
+        match asked {
+            Asked::Router => router_case(self, line),
+            Asked::Reader => sheet_case(self, &Reader, line, 1, 2),
+            Asked::Drawer => sheet_case(self, &Drawer, line, 1, 2),
+            Asked::Agreement(wanted) => agreement_case(self, line, 2, wanted),
+            Asked::Whole => {
+                router_case(self, line)?;
+                sheet_case(self, &Reader, line, 8, 9)?;
+                agreement_case(self, line, 8, true)?;
+                sheet_case(self, &Drawer, line, 8, 13)
+            }
+        }
+    }
+
+    // Prints whom a case asks, its name, which is the first field of its line, the answer, and what was tested. A case is right where all of that is.
+    pub fn report(
+        &mut self,
+        asked: &str,
+        line: &[u8],
+        answer: &impl Display,
+        tests: &[(&str, bool)],
+    ) -> io::Result<()> {
+        print!(self.rt; "{asked} ")?;
+        self.write(field(line, 0))?;
+        print!(self.rt; ": {answer}")?;
+        for (tested, is_right) in tests {
+            let outcome = if *is_right { "right" } else { "WRONG" };
+            print!(self.rt; ", {tested} {outcome}")?;
+        }
+        self.count(tests.iter().all(|(_, is_right)| *is_right));
+        self.write(b"\n")
+    }
+
+    // A line with a field that cannot be read is a wrong case.
+    pub fn report_unread(&mut self, line: &[u8]) -> io::Result<()> {
+        self.count(false);
+        self.write(b"no case: ")?;
+        self.write(line)?;
+        self.write(b"\n")
+    }
+
+    // Prints some bytes as they are.
+    pub fn write(&self, text: &[u8]) -> io::Result<()> {
+        self.rt.write_all(text)
+    }
+
+    // Prints how many cases were asked, and how many are wrong.
+    pub fn print_counts(&self) -> io::Result<()> {
+        let cases = self.cases;
+        let wrong = self.wrong;
+        println!(self.rt; "{cases} cases, {wrong} wrong")
+    }
+
+    fn count(&mut self, is_right: bool) {
+        self.cases = self.cases.saturating_add(1);
+        if !is_right {
+            self.wrong = self.wrong.saturating_add(1);
+        }
+    }
+}

@@ -1,6 +1,0 @@
--- The measure is what is left of 32.
-use Rattle.std.proofs.Common.{◌-◌}
-use Rattle.vectors.proofs.total.Given as goal
-
-abbrev pub decreases-loop-k : goal.decreases-loop-k
-decreases-loop-k l = 32 - l.k
