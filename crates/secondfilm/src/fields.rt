@@ -1,49 +1,58 @@
 // Fields of bits, most significant first, written and read bit by bit.
-use secondrouter::cells::{less, num, plus, set};
+use std::alloc::{AllocError, Global};
 
-// The weight, in its byte, of the bit at place `i`.
-fn weight(i: usize) -> usize {
-    match i % 8 {
-        0 => 128,
-        1 => 64,
-        2 => 32,
-        3 => 16,
-        4 => 8,
-        5 => 4,
-        6 => 2,
-        _ => 1,
+// Reads the fields of some bytes in turn.
+#[derive(Drop)]
+pub struct Fields<'a> {
+    bytes: &'a [u8],
+    // How many bits were read.
+    place: usize,
+}
+
+impl<'a> Fields<'a> {
+    // Begins with the first bit.
+    pub fn new(bytes: &'a [u8]) -> Fields<'a> {
+        Fields { bytes, place: 0 }
+    }
+
+    // The next bit, 0 past the end.
+    fn bit(&mut self) -> usize {
+        let byte = self.bytes.get(self.place / 8).copied().unwrap_or(0);
+        let bit = byte >> (7 - self.place % 8) & 1;
+        self.place = self.place.saturating_add(1);
+        usize::from(bit)
+    }
+
+    // The next field of so many bits.
+    pub fn take(&mut self, width: usize) -> usize {
+        let mut value = 0;
+        for _ in 0..width {
+            value = value << 1 | self.bit();
+        }
+        value
     }
 }
 
-// Sets the bit at place `i` of a part where bit `j` of `v` is set.
-fn put_bit(s: &mut [u8], base: usize, i: usize, v: usize, j: usize) {
-    if j < 16 {
-        if (v >> j) % 2 == 1 {
-            set(s, base, i / 8, num(s, base, i / 8) | weight(i));
+// Adds the lowest `width` bits of a value.
+pub fn put_field(bits: &mut Vec<bool>, width: usize, value: usize) -> Result<(), AllocError> {
+    for k in (0..width).rev() {
+        bits.push(k < 64 && value >> k & 1 == 1)?;
+    }
+    Ok(())
+}
+
+// The byte of eight bits, or of fewer and zeros.
+fn byte_of(bits: &[bool]) -> u8 {
+    let mut byte = 0;
+    for (bit, weight) in bits.iter().zip([128, 64, 32, 16, 8, 4, 2, 1]) {
+        if *bit {
+            byte |= weight;
         }
     }
+    byte
 }
 
-// Adds the lowest `width` bits of `v` at place `i` of a part whose bits are 0 there.
-pub fn put_field(s: &mut [u8], base: usize, i: usize, width: usize, v: usize) {
-    for k in 0..width {
-        put_bit(s, base, plus(i, k), v, less(width - k, 1));
-    }
-}
-
-fn bit(s: &[u8], base: usize, i: usize) -> usize {
-    if num(s, base, i / 8) & weight(i) == 0 {
-        0
-    } else {
-        1
-    }
-}
-
-// The field of `width` bits at place `i` of a part.
-pub fn field(s: &[u8], base: usize, i: usize, width: usize) -> usize {
-    let mut v = 0;
-    for k in 0..width {
-        v = plus(plus(v, v), bit(s, base, plus(i, k)));
-    }
-    v
+// The bytes of some bits, the last one filled up with zeros.
+pub fn bytes_of(alloc: Global, bits: &[bool]) -> Result<Vec<u8>, AllocError> {
+    bits.chunks(8).map(byte_of).collect(alloc)
 }

@@ -3,5 +3,6 @@
 
 pub mod fields;
 pub mod order;
+pub mod records;
 pub mod sheets;
 pub mod wires;

@@ -1,218 +1,230 @@
-// What documents 01 and 02 say of a sheet that stands in the store: its first fault, the row that it gives back, and whether that joins as another row does.
-use secondfilm::fields::field;
-use secondfilm::sheets::{open_after, sheet_need};
-use secondrouter::cells::{
-    KINDS, NUMBERS, OPENS, ORDER, PLACES, ROW, SHEET, answer, carry, less, num, plus, set,
-};
-use secondrouter::lists::{insert, remove};
-use secondrouter::nets::{BLANK, FIRST, NOTHING, if_kind, opens, seek};
+// What documents 01 and 02 say of a sheet: its first fault, the row that it gives back, and whether that joins as another row does.
+use secondfilm::fields::Fields;
+use secondfilm::sheets::sheet_need;
+use secondrouter::nets::{Kind, Node, count_open, label_of};
+use secondrouter::orders::Order;
+use secondrouter::streets::Streets;
+use std::alloc::{AllocError, Global};
 
 // The most nets that the reader takes.
-const MOST: usize = 255;
+const MOST_NETS: usize = 255;
 
-// The sheet's node count.
-pub fn count(store: &[u8]) -> usize {
-    field(store, SHEET, 6, 10)
+// Why a sheet is refused. A node that is at fault counts from 1, as in the documents.
+#[derive(Clone, Copy, PartialEq, Eq, Debug)]
+pub enum Fault {
+    // Under two bytes, or a node count that is not 2 to 512.
+    Count,
+    // A street of over three tracks.
+    Streets,
+    // A length that is not that of the node count.
+    Length,
+    // At this node: a position that so many open nets do not have.
+    Position(usize),
+    // At this node: more wires above it than upper tracks.
+    Upper(usize),
+    // At this node: more wires below it than lower tracks.
+    Lower(usize),
+    // At this node: more nets than tracks in both streets.
+    Tracks(usize),
+    // Nets are open after the last node, which is this one.
+    Open(usize),
+    // A bit behind the last node is set.
+    Padding,
+    // More nets than the reader takes.
+    Nets,
 }
 
-// The sheet's streets as 4 Ku + Kl: its first six bits as they stand.
-pub fn pair(store: &[u8]) -> usize {
-    field(store, SHEET, 0, 6)
-}
-
-fn is_count(n: usize) -> bool {
-    if n < 2 {
-        return false;
-    }
-    n <= 512
-}
-
-// The first of 11, 12 and 13 that is to be said of a sheet of `len` bytes; 0 if none is.
-pub fn head_fault(store: &[u8], len: usize) -> usize {
-    if len < 2 {
-        return answer(11, 0);
-    }
-    if !is_count(count(store)) {
-        return answer(11, 0);
-    }
-    if 15 < pair(store) {
-        return answer(12, 0);
-    }
-    if len == sheet_need(count(store)) {
-        0
-    } else {
-        answer(13, 0)
-    }
-}
-
-fn unpack_node(store: &mut [u8], i: usize) {
-    if i < 65536 {
-        set(store, KINDS, i, field(store, SHEET, 16 + i * 6, 2));
-        set(store, PLACES, i, field(store, SHEET, 18 + i * 6, 4));
-    }
-}
-
-// Writes the kinds and the position fields of the sheet's nodes.
-fn unpack(store: &mut [u8], n: usize) {
-    for i in 0..n {
-        unpack_node(store, i);
-    }
-}
-
-// Whether a position field is over what `b` open nets allow: p is one more than its field, s is the field.
-fn is_over(kind: usize, p: usize, b: usize) -> bool {
-    if kind == BLANK { b < p } else { b <= p }
-}
-
-// How many of `b` wires pass below the node.
-fn below(kind: usize, p: usize, b: usize) -> usize {
-    less(less(b, p), less(1, if_kind(kind, BLANK)))
-}
-
-// The first of 16, 17, 30 and 31 that is to be said of a node; 0 if none is.
-fn node_number(kind: usize, p: usize, b: usize, pair: usize) -> usize {
-    if is_over(kind, p, b) {
-        return 16;
-    }
-    if pair / 4 < p {
-        return 17;
-    }
-    if pair % 4 < below(kind, p, b) {
-        return 30;
-    }
-    if kind == BLANK {
-        return 0;
-    }
-    if b <= plus(pair / 4, pair % 4) { 0 } else { 31 }
-}
-
-fn node_fault(store: &[u8], i: usize, pair: usize) -> usize {
-    let number = node_number(
-        num(store, KINDS, i),
-        num(store, PLACES, i),
-        num(store, OPENS, i),
-        pair,
-    );
-    if number == 0 {
-        0
-    } else {
-        answer(number, plus(i, 1))
-    }
-}
-
-// The fault of the leftmost node that has one; 0 if none has.
-fn nodes_fault(store: &[u8], n: usize, pair: usize) -> usize {
-    for i in 0..n {
-        let fault = node_fault(store, i, pair);
-        if fault != 0 {
-            return fault;
+impl Fault {
+    // The number that the documents give it.
+    pub fn number(self) -> u32 {
+        match self {
+            Fault::Count => 11,
+            Fault::Streets => 12,
+            Fault::Length => 13,
+            Fault::Position(_) => 16,
+            Fault::Upper(_) => 17,
+            Fault::Open(_) => 18,
+            Fault::Padding => 19,
+            Fault::Nets => 23,
+            Fault::Lower(_) => 30,
+            Fault::Tracks(_) => 31,
         }
     }
-    0
-}
 
-// What the bits behind the last node spell.
-fn padding(store: &[u8], n: usize) -> usize {
-    if n < 65536 {
-        field(store, SHEET, 16 + n * 6, n % 4 * 2)
-    } else {
-        0
+    // The place that goes with the number: the node, or 0 where the fault is at none.
+    pub fn place(self) -> usize {
+        match self {
+            Fault::Position(place)
+            | Fault::Upper(place)
+            | Fault::Lower(place)
+            | Fault::Tracks(place)
+            | Fault::Open(place) => place,
+            Fault::Count | Fault::Streets | Fault::Length | Fault::Padding | Fault::Nets => 0,
+        }
     }
 }
 
-// The first of 18 and 19 that is to be said; 0 if none is.
-fn end_fault(store: &[u8], n: usize) -> usize {
-    if open_after(store, less(n, 1)) != 0 {
-        return answer(18, n);
+// The first two bytes of a sheet.
+#[derive(Clone, Copy, PartialEq, Eq, Debug)]
+pub struct Head {
+    pub streets: Streets,
+    pub nodes: usize,
+}
+
+// A sheet without a fault.
+#[derive(Drop)]
+pub struct Sheet {
+    pub streets: Streets,
+    pub nodes: Vec<Node>,
+}
+
+// The sheet's node count as its bits stand.
+pub fn node_count(sheet: &[u8]) -> usize {
+    let mut fields = Fields::new(sheet);
+    fields.take(6);
+    fields.take(10)
+}
+
+// The head of a sheet; or the first of 11, 12 and 13 that is to be said of it.
+pub fn read_head(sheet: &[u8]) -> Result<Head, Fault> {
+    let nodes = node_count(sheet);
+    if sheet.len() < 2 || !(2..=512).contains(&nodes) {
+        return Err(Fault::Count);
     }
-    if padding(store, n) == 0 {
-        0
-    } else {
-        answer(19, 0)
+    let pair = Fields::new(sheet).take(6);
+    if 15 < pair {
+        return Err(Fault::Streets);
     }
-}
-
-fn body_fault(store: &mut [u8], n: usize, pair: usize) -> usize {
-    unpack(store, n);
-    opens(store, n);
-    let fault = nodes_fault(store, n, pair);
-    if fault != 0 {
-        return fault;
+    if sheet.len() != sheet_need(nodes) {
+        return Err(Fault::Length);
     }
-    end_fault(store, n)
+    let streets = Streets::nth(pair);
+    Ok(Head { streets, nodes })
 }
 
-// The first fault, 14, 21 and 23 aside, of the sheet of `len` bytes; 0 if it has none. The kinds, positions and open nets of its nodes are then written.
-pub fn fault(store: &mut [u8], len: usize) -> usize {
-    let fault = head_fault(store, len);
-    if fault != 0 {
-        return fault;
+// The next node of a sheet.
+fn take_node(fields: &mut Fields) -> Node {
+    let kind = Kind::from_bits(fields.take(2));
+    Node::new(kind, fields.take(4))
+}
+
+// The kinds, positions and open nets of so many nodes of a sheet, as its bits have them.
+pub fn unpack(alloc: Global, sheet: &[u8], count: usize) -> Result<Vec<Node>, AllocError> {
+    let mut fields = Fields::new(sheet);
+    fields.take(16);
+    let mut nodes = Vec::with_capacity(alloc, count)?;
+    for _ in 0..count {
+        nodes.push(take_node(&mut fields))?;
     }
-    body_fault(store, count(store), pair(store))
+    count_open(&mut nodes);
+    Ok(nodes)
 }
 
-fn put_in(store: &mut [u8], b: usize, p: usize, x: usize) -> usize {
-    insert(store, ORDER, ORDER + 32, b, p, x);
-    carry(store, ORDER + 32, ORDER, 0, b);
-    x
-}
-
-fn take_out(store: &mut [u8], b: usize, p: usize) -> usize {
-    let x = num(store, ORDER, p);
-    remove(store, ORDER, ORDER, b, p);
-    x
-}
-
-// Passes node `i` with the order of open nets, where a net that begins there has the number `x`, and returns the number of its net; 255 at a blank.
-pub fn touch(store: &mut [u8], i: usize, x: usize) -> usize {
-    let b = num(store, OPENS, i);
-    let p = num(store, PLACES, i);
-    match num(store, KINDS, i) {
-        0 => put_in(store, b, p, x),
-        1 => num(store, ORDER, p),
-        2 => take_out(store, b, p),
-        _ => NOTHING,
+// Tests a node, which is this one: the first of 16, 17, 30 and 31 that is to be said of it.
+fn test_node(node: &Node, place: usize, streets: Streets) -> Result<(), Fault> {
+    let own = if node.kind == Kind::Blank { 0 } else { 1 };
+    let Some(below) = node.open.checked_sub(node.position.saturating_add(own)) else {
+        return Err(Fault::Position(place));
+    };
+    if usize::from(streets.upper) < node.position {
+        return Err(Fault::Upper(place));
     }
+    if usize::from(streets.lower) < below {
+        return Err(Fault::Lower(place));
+    }
+    if node.kind != Kind::Blank && streets.tracks() < node.open {
+        return Err(Fault::Tracks(place));
+    }
+    Ok(())
 }
 
-// Writes the number of each node's net, 255 at a blank, for a sheet without a fault, and returns how many nets there are.
-pub fn numbers(store: &mut [u8], n: usize) -> usize {
-    let mut nets = 0;
-    for i in 0..n {
-        let x = touch(store, i, nets);
-        set(store, NUMBERS, i, x);
-        nets = plus(nets, if_kind(num(store, KINDS, i), FIRST));
+// Tests all nodes: the fault of the leftmost one that has one.
+fn test_nodes(nodes: &[Node], streets: Streets) -> Result<(), Fault> {
+    for (i, node) in nodes.iter().enumerate() {
+        test_node(node, i.saturating_add(1), streets)?;
+    }
+    Ok(())
+}
+
+// What the bits behind so many nodes spell.
+fn padding(sheet: &[u8], nodes: usize) -> usize {
+    let mut fields = Fields::new(sheet);
+    fields.take(nodes.saturating_mul(6).saturating_add(16));
+    fields.take(nodes % 4 * 2)
+}
+
+// Tests the end of a sheet: the first of 18 and 19 that is to be said of it.
+fn test_end(sheet: &[u8], nodes: &[Node]) -> Result<(), Fault> {
+    if nodes.last().is_some_and(|last| last.open_after() != 0) {
+        return Err(Fault::Open(nodes.len()));
+    }
+    if padding(sheet, nodes.len()) != 0 {
+        return Err(Fault::Padding);
+    }
+    Ok(())
+}
+
+// Tests the body of a sheet, whose nodes these are: its first fault.
+fn test_body(sheet: &[u8], nodes: &[Node], streets: Streets) -> Result<(), Fault> {
+    test_nodes(nodes, streets)?;
+    test_end(sheet, nodes)
+}
+
+// The streets and nodes of a sheet, which have no nets yet; or its first fault, 14, 21 and 23 aside.
+pub fn judge(alloc: Global, sheet: &[u8]) -> Result<Result<Sheet, Fault>, AllocError> {
+    let head = match read_head(sheet) {
+        Ok(head) => head,
+        Err(fault) => return Ok(Err(fault)),
+    };
+    let nodes = unpack(alloc, sheet, head.nodes)?;
+    if let Err(fault) = test_body(sheet, &nodes, head.streets) {
+        return Ok(Err(fault));
+    }
+    Ok(Ok(Sheet {
+        streets: head.streets,
+        nodes,
+    }))
+}
+
+// Gives each node its net's number, none at a blank, and gives how many nets there are. The nodes' limits hold.
+pub fn number_nets(nodes: &mut [Node]) -> usize {
+    let mut order = Order::new();
+    let mut nets: usize = 0;
+    for node in nodes.iter_mut() {
+        node.net = order.pass(node, u8::try_from(nets).ok());
+        if node.kind == Kind::First {
+            nets = nets.saturating_add(1);
+        }
     }
     nets
 }
 
-// What the reader says of a sheet of `n` nodes and so many nets that has no other fault.
-pub fn nets_answer(n: usize, nets: usize) -> usize {
-    if MOST < nets {
-        answer(23, 0)
+// What the reader says of a sheet of so many nodes and nets that has no other fault: how many nodes it gives back.
+pub fn reader_answer(nodes: usize, nets: usize) -> Result<usize, Fault> {
+    if MOST_NETS < nets {
+        Err(Fault::Nets)
     } else {
-        answer(0, n)
+        Ok(nodes)
     }
 }
 
-fn is_alike(store: &[u8], i: usize) -> bool {
-    let x = num(store, ROW, i);
-    let y = num(store, NUMBERS, i);
-    if x == NOTHING {
-        return y == NOTHING;
-    }
-    if y == NOTHING {
-        return false;
-    }
-    seek(store, ROW, 0, i, x) == seek(store, NUMBERS, 0, i, y)
-}
-
-// Whether the row's first `n` nodes are joined as those of the numbers, and the same ones blank. A net is known by its first node.
-pub fn joins_alike(store: &[u8], n: usize) -> bool {
-    for i in 0..n {
-        if !is_alike(store, i) {
-            return false;
+// Whether the first node of a label is that of a net, as a net is known by its first node; or both are a blank's.
+fn is_alike(row: &[u8], nodes: &[Node], label: u8, net: Option<u8>) -> bool {
+    match (label_of(label), net) {
+        (None, None) => true,
+        (Some(_), Some(_)) => {
+            let first = nodes.iter().position(|node| node.net == net);
+            row.iter().position(|other| *other == label) == first
         }
+        _ => false,
     }
-    true
+}
+
+// Whether a row joins its nodes as these are joined, and leaves the same ones blank.
+pub fn joins_alike(row: &[u8], nodes: &[Node]) -> bool {
+    row.len() == nodes.len()
+        && row
+            .iter()
+            .zip(nodes)
+            .all(|(label, node)| is_alike(row, nodes, *label, node.net))
 }

@@ -1,256 +1,216 @@
 // The first placing by layers: after each node the list of all distinct orders that the rest of the row can be completed from.
-use crate::cells::{KINDS, LAYERS, OPENS, ROW, SIZES, carry, less, num, plus, set, set_word, word};
-use crate::lists::{SPENT, fewest, find, fits, insert, listed, remove};
+use crate::nets::{Kind, Node};
+use crate::orders::Order;
+use crate::streets::Streets;
+use std::alloc::{AllocError, Global};
+use std::mem;
 
-// The layer behind the last holds the order of the placing, and one that is tried.
-const PLACING: usize = 2368416;
-
-const TRIAL: usize = 2368422;
-
-// Where the layer after `i` nodes begins: six nets have 720 orders of six bytes.
-fn layer(i: usize) -> usize {
-    if i < 513 { LAYERS + i * 4320 } else { PLACING }
-}
-
-// Where order `k` of the layer at `base` stands. No layer has more than 720: another would spoil the placing, and be seen.
-fn slot(base: usize, k: usize) -> usize {
-    if k < 720 { plus(base, k * 6) } else { PLACING }
-}
-
-fn insert_one(
-    store: &mut [u8],
-    a: usize,
-    into: usize,
-    made: usize,
-    x: usize,
-    b: usize,
-    p: usize,
-    pair: usize,
-) -> usize {
-    if !fits(p, b, pair) {
-        return made;
-    }
-    insert(store, a, slot(into, made), b, p, x);
-    plus(made, 1)
-}
-
-// Every order that `x` makes of the order at `a` where it fits.
+// Every order that a net makes of an order where it fits.
 fn insert_each(
-    store: &mut [u8],
-    a: usize,
-    into: usize,
-    made: usize,
-    x: usize,
-    b: usize,
-    pair: usize,
-) -> usize {
-    let mut count = made;
-    for p in 0..b {
-        count = insert_one(store, a, into, count, x, b, p, pair);
+    order: Order,
+    net: u8,
+    open: usize,
+    streets: Streets,
+    into: &mut Vec<Order>,
+) -> Result<(), AllocError> {
+    for position in 0..open {
+        if streets.fits(position, open) {
+            let mut after = order;
+            after.insert(position, net);
+            into.push(after)?;
+        }
     }
-    count
+    Ok(())
 }
 
-// The order at `a` itself, if `x` fits in it.
-fn keep(
-    store: &mut [u8],
-    a: usize,
-    into: usize,
-    made: usize,
-    x: usize,
-    b: usize,
-    pair: usize,
-) -> usize {
-    if !fits(find(store, a, b, x), b, pair) {
-        return made;
+// The order without a net, if the net fits in it and no other order has left the same.
+fn remove_one(order: Order, position: usize, into: &mut Vec<Order>) -> Result<(), AllocError> {
+    let mut after = order;
+    after.remove(position);
+    if !into.contains(&after) {
+        into.push(after)?;
     }
-    carry(store, a, slot(into, made), 0, b);
-    plus(made, 1)
+    Ok(())
 }
 
-// The order at `a` without `x`, if `x` fits in it and no other has left the same.
-fn remove_one(
-    store: &mut [u8],
-    a: usize,
-    into: usize,
-    made: usize,
-    x: usize,
-    b: usize,
-    pair: usize,
-) -> usize {
-    let p = find(store, a, b, x);
-    if !fits(p, b, pair) {
-        return made;
-    }
-    let c = slot(into, made);
-    remove(store, a, c, b, p);
-    if listed(store, into, made, c, less(b, 1)) {
-        return made;
-    }
-    plus(made, 1)
+// The position of a net in an order, if it fits there.
+fn fitting(order: &Order, net: u8, open: usize, streets: Streets) -> Option<usize> {
+    order
+        .position(net)
+        .filter(|position| streets.fits(*position, open))
 }
 
-// The order at `a` itself, if its `b` wires find a way past a blank.
-fn go_round(store: &mut [u8], a: usize, into: usize, made: usize, b: usize, pair: usize) -> usize {
-    if fewest(b, pair) == SPENT {
-        return made;
-    }
-    carry(store, a, slot(into, made), 0, b);
-    plus(made, 1)
-}
-
-// What the order at `a` gives to the next layer: `x` goes in (0), stays (1) or comes out (2), or all go round a blank (3). `b` nets are open at the node.
+// What an order gives to the next layer at a node whose net goes in (first), stays (inner) or comes out (last), or where all wires go round (blank).
 fn give(
-    store: &mut [u8],
-    a: usize,
-    into: usize,
-    made: usize,
-    act: usize,
-    x: usize,
-    b: usize,
-    pair: usize,
-) -> usize {
-    match act {
-        0 => insert_each(store, a, into, made, x, b, pair),
-        1 => keep(store, a, into, made, x, b, pair),
-        2 => remove_one(store, a, into, made, x, b, pair),
-        _ => go_round(store, a, into, made, b, pair),
+    order: Order,
+    node: &Node,
+    kind: Kind,
+    streets: Streets,
+    into: &mut Vec<Order>,
+) -> Result<(), AllocError> {
+    let Some(net) = node.net else {
+        if streets.fewest_above(node.open).is_some() {
+            into.push(order)?;
+        }
+        return Ok(());
+    };
+    if kind == Kind::First {
+        return insert_each(order, net, node.open, streets, into);
     }
+    let Some(position) = fitting(&order, net, node.open, streets) else {
+        return Ok(());
+    };
+    if kind == Kind::Last {
+        return remove_one(order, position, into);
+    }
+    into.push(order)?;
+    Ok(())
 }
 
-// Makes the layer at `into` from the `count` orders at `from`, across node `i`, and returns how many it has.
+// Makes a layer of another one across a node.
 fn across(
-    store: &mut [u8],
-    from: usize,
-    count: usize,
-    into: usize,
-    act: usize,
-    i: usize,
-    pair: usize,
-) -> usize {
-    let x = num(store, ROW, i);
-    let b = num(store, OPENS, i);
-    let mut made = 0;
-    let mut a = from;
-    for _ in 0..count {
-        made = give(store, a, into, made, act, x, b, pair);
-        a = plus(a, 6);
+    from: &[Order],
+    node: &Node,
+    kind: Kind,
+    streets: Streets,
+    into: &mut Vec<Order>,
+) -> Result<(), AllocError> {
+    into.clear();
+    for order in from {
+        give(*order, node, kind, streets, into)?;
     }
-    made
+    Ok(())
 }
 
-// The place of the first node, from 1, after which no order is left going forward; 0 if the row has a placing.
-fn failing(store: &mut [u8], n: usize, pair: usize) -> usize {
-    let mut count = 1;
-    for i in 0..n {
-        count = across(
-            store,
-            layer(i),
-            count,
-            layer(i + 1),
-            num(store, KINDS, i),
-            i,
-            pair,
-        );
-        if count == 0 {
-            return i + 1;
-        }
-    }
-    0
-}
-
-// What a node of a kind does where the row is gone through from its end: a last node opens its net, a first one closes it.
-fn turned(kind: usize) -> usize {
+// What a node does where the row is gone through from its end: a last node opens its net, a first one closes it.
+fn turned(kind: Kind) -> Kind {
     match kind {
-        0 => 2,
-        2 => 0,
-        _ => kind,
+        Kind::First => Kind::Last,
+        Kind::Last => Kind::First,
+        Kind::Inner | Kind::Blank => kind,
     }
 }
 
-// Lists, from the last node back, the orders that the rest of the row can be completed from.
-fn complete(store: &mut [u8], words: &mut [usize], n: usize, pair: usize) {
-    let mut count = 1;
-    for back in 0..n {
-        let i = less(n - back, 1);
-        set_word(words, SIZES, n - back, count);
-        count = across(
-            store,
-            layer(n - back),
-            count,
-            layer(i),
-            turned(num(store, KINDS, i)),
-            i,
-            pair,
-        );
-    }
-}
-
-// Whether the placing's order with `x` at `p` is one of the `count` at `base`.
-fn leads_on(
-    store: &mut [u8],
-    base: usize,
-    count: usize,
-    x: usize,
-    b: usize,
-    p: usize,
-    pair: usize,
-) -> bool {
-    if !fits(p, b, pair) {
-        return false;
-    }
-    insert(store, PLACING, TRIAL, b, p, x);
-    listed(store, base, count, TRIAL, b)
-}
-
-// The smallest position from which the row can be completed; its order is left as the one that is tried.
-fn smallest(store: &mut [u8], base: usize, count: usize, x: usize, b: usize, pair: usize) -> usize {
-    for p in 0..b {
-        if leads_on(store, base, count, x, b, p, pair) {
-            return p;
+// The smallest position at which a net leads on from an order to one of the next layer.
+fn smallest(
+    order: &Order,
+    net: u8,
+    open: usize,
+    streets: Streets,
+    next: &[Order],
+) -> Option<usize> {
+    for position in 0..open {
+        let mut after = *order;
+        after.insert(position, net);
+        if streets.fits(position, open) && next.contains(&after) {
+            return Some(position);
         }
     }
-    b
+    None
 }
 
-fn place_first(store: &mut [u8], i: usize, count: usize, x: usize, b: usize, pair: usize) -> usize {
-    let p = smallest(store, layer(plus(i, 1)), count, x, b, pair);
-    carry(store, TRIAL, PLACING, 0, b);
-    p
-}
-
-fn place_last(store: &mut [u8], x: usize, b: usize) -> usize {
-    let p = find(store, PLACING, b, x);
-    remove(store, PLACING, PLACING, b, p);
-    p
-}
-
-// Passes node `i` with the placing's order, where `count` orders lead on, and returns the position there.
-fn place(store: &mut [u8], i: usize, count: usize, pair: usize) -> usize {
-    let x = num(store, ROW, i);
-    let b = num(store, OPENS, i);
-    match num(store, KINDS, i) {
-        0 => place_first(store, i, count, x, b, pair),
-        1 => find(store, PLACING, b, x),
-        2 => place_last(store, x, b),
-        _ => fewest(b, pair),
+// The position at a node that the placing's order comes to, where `next` are the orders that lead on.
+fn position_at(order: &Order, node: &Node, streets: Streets, next: &[Order]) -> Option<usize> {
+    let Some(net) = node.net else {
+        return streets.fewest_above(node.open);
+    };
+    if node.kind == Kind::First {
+        return smallest(order, net, node.open, streets, next);
     }
+    order.position(net)
 }
 
-// The place of the first node that no choice serves, 0 if the row has a placing; the positions of its first one are then written at `into`.
-pub fn search(store: &mut [u8], words: &mut [usize], n: usize, pair: usize, into: usize) -> usize {
-    let place = failing(store, n, pair);
-    if place == 0 {
-        complete(store, words, n, pair);
-        first(store, words, n, pair, into);
+// The layers of a row. They keep their memory from one row to the next.
+#[derive(Drop)]
+pub struct Layers {
+    alloc: Global,
+    // The layer before the node that is passed, and the one after it.
+    before: Vec<Order>,
+    after: Vec<Order>,
+    // For each node, from the last one back, the orders after it from which the rest of the row can be completed.
+    completed: Vec<Vec<Order>>,
+}
+
+impl Layers {
+    // No layers yet.
+    pub fn new(alloc: Global) -> Layers {
+        Layers {
+            alloc,
+            before: Vec::new(alloc),
+            after: Vec::new(alloc),
+            completed: Vec::new(alloc),
+        }
     }
-    place
-}
 
-// Goes forward over the completed layers, always to the smallest position.
-fn first(store: &mut [u8], words: &[usize], n: usize, pair: usize, into: usize) {
-    for i in 0..n {
-        let p = place(store, i, word(words, SIZES, i + 1), pair);
-        set(store, into, i, p);
+    // Begins with the layer at an end of the row, where no net is open.
+    fn begin(&mut self) -> Result<(), AllocError> {
+        self.before.clear();
+        self.before.push(Order::new())?;
+        Ok(())
+    }
+
+    // The first node after which no order is left going forward; none if the row has a placing.
+    fn failing(&mut self, nodes: &[Node], streets: Streets) -> Result<Option<usize>, AllocError> {
+        self.begin()?;
+        for (i, node) in nodes.iter().enumerate() {
+            across(&self.before, node, node.kind, streets, &mut self.after)?;
+            if self.after.is_empty() {
+                return Ok(Some(i));
+            }
+            mem::swap(&mut self.before, &mut self.after);
+        }
+        Ok(None)
+    }
+
+    // Has a layer for each of so many nodes.
+    fn reserve(&mut self, nodes: usize) -> Result<(), AllocError> {
+        for _ in self.completed.len()..nodes {
+            self.completed.push(Vec::new(self.alloc))?;
+        }
+        Ok(())
+    }
+
+    // Lists, from the last node back, the orders that the rest of the row can be completed from.
+    fn complete(&mut self, nodes: &[Node], streets: Streets) -> Result<(), AllocError> {
+        self.begin()?;
+        self.reserve(nodes.len())?;
+        for (node, layer) in nodes.iter().rev().zip(self.completed.iter_mut()) {
+            across(
+                &self.before,
+                node,
+                turned(node.kind),
+                streets,
+                &mut self.after,
+            )?;
+            mem::swap(layer, &mut self.before);
+            mem::swap(&mut self.before, &mut self.after);
+        }
+        Ok(())
+    }
+
+    // Goes forward over the completed layers, always to the smallest position.
+    fn first(&self, nodes: &mut [Node], streets: Streets) {
+        let mut order = Order::new();
+        let layers = self.completed.iter().take(nodes.len()).rev();
+        for (node, next) in nodes.iter_mut().zip(layers) {
+            if let Some(position) = position_at(&order, node, streets, next) {
+                node.position = position;
+                order.pass(node, node.net);
+            }
+        }
+    }
+
+    // Writes the positions of a row's first placing; or says which is the first node that no choice serves.
+    pub fn place(
+        &mut self,
+        nodes: &mut [Node],
+        streets: Streets,
+    ) -> Result<Result<(), usize>, AllocError> {
+        if let Some(i) = self.failing(nodes, streets)? {
+            return Ok(Err(i));
+        }
+        self.complete(nodes, streets)?;
+        self.first(nodes, streets);
+        Ok(Ok(()))
     }
 }

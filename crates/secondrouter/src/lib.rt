@@ -1,8 +1,8 @@
 // A second router, written from documents 01 and 02 alone: what ours is tested against.
 #![tactic(auto)]
 
-pub mod cells;
 pub mod depth;
 pub mod layers;
-pub mod lists;
 pub mod nets;
+pub mod orders;
+pub mod streets;

@@ -1,100 +1,152 @@
-// What a row says of its nodes: kinds, lone labels, open nets, and the nets' numbers. Nodes count from 0 here. A node with the label 255 is a blank of
-// request 1: it stands in no net.
-use crate::cells::{KINDS, NUMBERS, OPENS, ROW, less, num, plus, set};
+// What a row says of its nodes: their kinds, lone labels, how many nets are open, and the nets' numbers. Nodes count from 0 here. A node with the label 255 is a
+// blank of request 1: it stands in no net.
+use std::alloc::{AllocError, Global};
+use std::collections::BTreeMap;
 
-pub const FIRST: usize = 0;
-
-pub const INNER: usize = 1;
-
-pub const LAST: usize = 2;
-
-pub const BLANK: usize = 3;
-
-pub const LONE: usize = 4;
 // The label of a blank, and what the reader writes there.
-pub const NOTHING: usize = 255;
+pub const BLANK_LABEL: u8 = 255;
 
-// The first of the nodes `from` to before `to` that has `x` in the part at `base`; `to` if there is none.
-pub fn seek(store: &[u8], base: usize, from: usize, to: usize, x: usize) -> usize {
-    for j in from..to {
-        if num(store, base, j) == x {
-            return j;
-        }
-    }
-    to
+// What a node is to its net; a blank has none.
+#[derive(Clone, Copy, PartialEq, Eq, Debug)]
+pub enum Kind {
+    First,
+    Inner,
+    Last,
+    Blank,
 }
 
-// The kind of node `i`, whose label `x` is that of a net.
-fn net_kind(store: &[u8], n: usize, i: usize, x: usize) -> usize {
-    let before = seek(store, ROW, 0, i, x);
-    let after = seek(store, ROW, plus(i, 1), n, x);
-    if before < i {
-        if after < n { INNER } else { LAST }
+impl Kind {
+    // The kind that two bits of a sheet stand for.
+    pub fn from_bits(bits: usize) -> Kind {
+        match bits {
+            0 => Kind::First,
+            1 => Kind::Inner,
+            2 => Kind::Last,
+            _ => Kind::Blank,
+        }
+    }
+
+    // The two bits of a sheet that stand for it.
+    pub fn bits(self) -> usize {
+        match self {
+            Kind::First => 0,
+            Kind::Inner => 1,
+            Kind::Last => 2,
+            Kind::Blank => 3,
+        }
+    }
+}
+
+// A node of a row or of a sheet.
+#[derive(Clone, Copy, PartialEq, Eq, Debug)]
+pub struct Node {
+    pub kind: Kind,
+    // The net by its label in a row, or by its number; none at a blank.
+    pub net: Option<u8>,
+    // How many nets are open at the node, with its own if it has one.
+    pub open: usize,
+    // The net's position in the order of open nets, the topmost 0; at a blank the number of wires above it.
+    pub position: usize,
+}
+
+impl Node {
+    // A node of a kind at a position, of no net.
+    pub fn new(kind: Kind, position: usize) -> Node {
+        Node {
+            kind,
+            net: None,
+            open: 0,
+            position,
+        }
+    }
+
+    // How many nets are open after the node.
+    pub fn open_after(&self) -> usize {
+        if self.kind == Kind::Last {
+            self.open.saturating_sub(1)
+        } else {
+            self.open
+        }
+    }
+}
+
+// The net that a label names; none for a blank's.
+pub fn label_of(label: u8) -> Option<u8> {
+    if label == BLANK_LABEL {
+        None
     } else {
-        if after < n { FIRST } else { LONE }
+        Some(label)
     }
 }
 
-fn kind(store: &[u8], n: usize, i: usize) -> usize {
-    let x = num(store, ROW, i);
-    if x == NOTHING {
-        return BLANK;
+// The kind of node `i` of the row; none where the node has a net's label that stands there only.
+fn kind_of(row: &[u8], i: usize) -> Option<Kind> {
+    let (before, rest) = row.split_at_checked(i)?;
+    let (label, after) = rest.split_first()?;
+    if *label == BLANK_LABEL {
+        return Some(Kind::Blank);
     }
-    net_kind(store, n, i, x)
+    match (before.contains(label), after.contains(label)) {
+        (false, true) => Some(Kind::First),
+        (true, true) => Some(Kind::Inner),
+        (true, false) => Some(Kind::Last),
+        (false, false) => None,
+    }
 }
 
-// Writes each node's kind: B 0, M 1, E 2, 3 for a blank, and 4 where the label stands there only.
-pub fn kinds(store: &mut [u8], n: usize) {
-    for i in 0..n {
-        set(store, KINDS, i, kind(store, n, i));
-    }
+// Whether node `i` has a net's label that stands there only.
+pub fn is_lone(row: &[u8], i: usize) -> bool {
+    i < row.len() && kind_of(row, i).is_none()
 }
 
-// The place of the first node with a lone label, from 1; 0 if there is none.
-pub fn lone(store: &[u8], n: usize) -> usize {
-    for i in 0..n {
-        if num(store, KINDS, i) == LONE {
-            return i + 1;
+// The first node with a label that stands there only.
+pub fn first_lone(row: &[u8]) -> Option<usize> {
+    (0..row.len()).find(|i| is_lone(row, *i))
+}
+
+// The nodes of a row with their kinds, labels and open nets, at position 0; or the first node with a label that stands there only.
+pub fn nodes_of(alloc: Global, row: &[u8]) -> Result<Result<Vec<Node>, usize>, AllocError> {
+    let mut nodes = Vec::with_capacity(alloc, row.len())?;
+    for (i, label) in row.iter().enumerate() {
+        let Some(kind) = kind_of(row, i) else {
+            return Ok(Err(i));
+        };
+        let mut node = Node::new(kind, 0);
+        node.net = label_of(*label);
+        nodes.push(node)?;
+    }
+    count_open(&mut nodes);
+    Ok(Ok(nodes))
+}
+
+// Writes how many nets are open at each node, with its own if it has one.
+pub fn count_open(nodes: &mut [Node]) {
+    let mut open: usize = 0;
+    for node in nodes.iter_mut() {
+        if node.kind == Kind::First {
+            open = open.saturating_add(1);
         }
-    }
-    0
-}
-
-// 1 if a node's kind is the one wanted, else 0: a first node opens a net, a last one closes it.
-pub fn if_kind(kind: usize, wanted: usize) -> usize {
-    if kind == wanted { 1 } else { 0 }
-}
-
-fn at_most_255(x: usize) -> usize {
-    if x < 255 { x } else { 255 }
-}
-
-// Writes how many nets are open at each node, with its own if it has one; 255 stands for all more.
-pub fn opens(store: &mut [u8], n: usize) {
-    let mut open = 0;
-    for i in 0..n {
-        let kind = num(store, KINDS, i);
-        let b = plus(open, if_kind(kind, FIRST));
-        set(store, OPENS, i, at_most_255(b));
-        open = less(b, if_kind(kind, LAST));
+        node.open = open;
+        open = node.open_after();
     }
 }
 
-// The number of node `i`'s net where `nets` nets began before it; 255 at a blank.
-fn number(store: &[u8], i: usize, nets: usize) -> usize {
-    if num(store, KINDS, i) == BLANK {
-        return NOTHING;
+// The number of a label's net, a new one where the label is new; none for a blank's.
+fn number_of(numbers: &mut BTreeMap<u8, u8>, label: u8) -> Result<Option<u8>, AllocError> {
+    if label == BLANK_LABEL {
+        return Ok(None);
     }
-    let j = seek(store, ROW, 0, i, num(store, ROW, i));
-    if j < i { num(store, NUMBERS, j) } else { nets }
+    let next = u8::try_from(numbers.len()).unwrap_or(u8::MAX);
+    let number = *numbers.entry(label)?.or_insert(next);
+    Ok(Some(number))
 }
 
-// Numbers the nets 0, 1, 2 in the order of their first nodes, writes each node's number, and returns how many nets there are.
-pub fn numbers(store: &mut [u8], n: usize) -> usize {
-    let mut nets = 0;
-    for i in 0..n {
-        set(store, NUMBERS, i, number(store, i, nets));
-        nets = plus(nets, if_kind(num(store, KINDS, i), FIRST));
+// The net's number of each node, 0, 1, 2 in the order of the nets' first nodes; none at a blank.
+pub fn numbers_of(alloc: Global, row: &[u8]) -> Result<Vec<Option<u8>>, AllocError> {
+    let mut numbers = BTreeMap::new(alloc);
+    let mut nets = Vec::with_capacity(alloc, row.len())?;
+    for label in row {
+        nets.push(number_of(&mut numbers, *label)?)?;
     }
-    nets
+    Ok(nets)
 }
