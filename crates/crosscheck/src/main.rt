@@ -3,28 +3,25 @@
 
 mod joinings;
 
+use randomrows::rows::RowMaker;
 use randomtrials::{rows, sheets};
 use std::io;
+use tallies::source::Source;
+use trials::trial::Trials;
 
-fn run(rt: &impl Print, store: &mut [u8; 2373376], words: &mut [usize; 74752]) -> io::Result<()> {
-    joinings::test_all(rt, store, words)?;
-    rows::test_short(rt, store, words)?;
-    rows::test_long(rt, store, words)?;
-    rows::test_lone(rt, store, words)?;
-    run_blanks(rt, store, words)?;
-    tallies::tally::report(rt, words)
-}
-
-// Rows with blanks, and sheets.
-fn run_blanks(rt: &impl Print, store: &mut [u8], words: &mut [usize]) -> io::Result<()> {
-    joinings::test_blanks(rt, store, words)?;
-    rows::test_short_blanks(rt, store, words)?;
-    rows::test_long_blanks(rt, store, words)?;
-    sheets::test_all(rt, store, words)
-}
+// The seed of the rows and sheets by lot.
+const SEED: u64 = 20611;
 
 fn main(rt: HostRuntime) -> io::Result<()> {
-    let mut store = [0u8; 2373376];
-    let mut words = [0usize; 74752];
-    run(&rt, &mut store, &mut words)
+    let mut trials = Trials::new(&rt, rt.alloc())?;
+    let mut maker = RowMaker::new(rt.alloc(), SEED);
+    joinings::test(&mut trials, 9, false, Source::Joinings)?;
+    rows::test(&mut trials, &mut maker, rows::SHORT)?;
+    rows::test(&mut trials, &mut maker, rows::LONG)?;
+    rows::test_lone(&mut trials, &mut maker)?;
+    joinings::test(&mut trials, 8, true, Source::BlankJoinings)?;
+    rows::test(&mut trials, &mut maker, rows::BLANK_SHORT)?;
+    rows::test(&mut trials, &mut maker, rows::BLANK_LONG)?;
+    sheets::test_all(&mut trials, &mut maker)?;
+    trials.report()
 }

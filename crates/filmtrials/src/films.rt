@@ -1,121 +1,124 @@
 // A sheet's film: what the drawer says of the sheet and draws, against the second router's wires.
-use secondfilm::wires::BROKEN;
-use secondreader::judge::pair;
-use secondrouter::cells::{answer, less, plus};
-use tallies::patterns::{fill, keeps, sheet_of, upto};
-use tallies::tally;
-use tallies::tally::{code, failing_part, is_wanted};
+use answers::Said;
+use secondfilm::sheets::record_count;
+use secondfilm::wires::Film;
+use secondreader::judge::Sheet;
+use secondreader::picture::shows;
+use std::alloc::{AllocError, Global};
+use tallies::failure::{Failure, Part};
+use tallies::patterns::{fill, keeps, part, part_mut};
+use tallies::tally::Tally;
 
-fn ask_drawer(store: &[u8], len: usize, film: &mut [u8], film_len: usize) -> usize {
-    let start = 0;
-    let end = upto(film_len, film.len());
-    code(answers::draw_said(film::drawer::draw(sheet_of(store, len), &mut film[start..end])))
+// The most bytes that are lent: 14 records a node and some more.
+const FILM: usize = 40960;
+
+// The trial of a sheet with a row: where it is counted, and the number that seeds its patterns and its choices.
+#[derive(Drop)]
+pub struct SheetTrial<'a> {
+    pub tally: &'a mut Tally,
+    pub sheet: &'a [u8],
+    pub row: &'a [u8],
+    pub seed: usize,
 }
 
-fn film_need(records: usize) -> usize {
-    if records < 65536 { records * 5 } else { 0 }
+// A call of the drawer: how many bytes it is lent, how many of them it is to write, and what it has to say.
+#[derive(Clone, Copy)]
+struct Call {
+    part: Part,
+    lent: usize,
+    written: usize,
+    wanted: Said,
 }
 
-// Whether the drawer gives the wanted answer, and leaves the film as it was from byte `from` on.
-fn draws(
-    store: &[u8],
-    words: &mut [usize],
-    len: usize,
-    film: &mut [u8],
-    film_len: usize,
-    from: usize,
-    want: usize,
-    seed: usize,
-) -> bool {
-    fill(film, 0, film_len, seed);
-    let said = ask_drawer(store, len, film, film_len);
-    tally::count_drawn(words, want);
-    if !is_wanted(words, said, want) {
-        return false;
+// The film that is lent, and the points of its wires.
+#[derive(Drop)]
+pub struct FilmTrials {
+    film: Vec<u8>,
+    points: Film,
+}
+
+impl FilmTrials {
+    pub fn new(alloc: Global) -> Result<FilmTrials, AllocError> {
+        Ok(FilmTrials {
+            film: vec![in alloc; 0; FILM]?,
+            points: Film::new(alloc),
+        })
     }
-    keeps(film, 0, from, film_len, seed)
-}
 
-// Whether a film one byte short gets 21 and is left as it was; tried on every fourth sheet that has records.
-fn refuses_film(
-    store: &[u8],
-    words: &mut [usize],
-    len: usize,
-    film: &mut [u8],
-    need: usize,
-    seed: usize,
-) -> bool {
-    if need == 0 {
-        return true;
+    // Fails where the drawer does not say what is wanted, or changes the film behind what it is to write.
+    fn try_call(&mut self, trial: &mut SheetTrial, call: Call) -> Result<(), Failure> {
+        let film = part_mut(&mut self.film, call.lent);
+        fill(film, trial.seed);
+        let said = answers::Said::from(film::drawer::draw(trial.sheet, film));
+        trial.tally.count_drawn(call.wanted);
+        call.part.says(said, call.wanted)?;
+        call.part.holds(keeps(film, call.written, trial.seed))
     }
-    if (seed / 16) % 4 != 0 {
-        return true;
+
+    // Fails where a film one byte short does not get 21 or is changed; tried on every fourth sheet that has records.
+    fn try_short(&mut self, trial: &mut SheetTrial, need: usize) -> Result<(), Failure> {
+        if need == 0 || trial.seed / 16 % 4 != 0 {
+            return Ok(());
+        }
+        trial.tally.count_short_film();
+        let call = Call {
+            part: Part::Refusal,
+            lent: need - 1,
+            written: 0,
+            wanted: Said {
+                number: 21,
+                place: 0,
+            },
+        };
+        self.try_call(trial, call)
     }
-    tally::add(words, tally::SHORT_FILMS, 1);
-    draws(
-        store,
-        words,
-        len,
-        film,
-        less(need, 1),
-        0,
-        answer(21, 0),
-        seed,
-    )
-}
 
-// Whether the film obeys the wire rules, and shows the very wires of the sheet.
-fn is_legal(store: &mut [u8], words: &mut [usize], n: usize, film: &[u8], records: usize) -> bool {
-    let streets = pair(store);
-    let points = secondfilm::wires::points(store, words, film, records, n, streets);
-    if points == BROKEN {
-        return false;
+    // Fails where the film breaks the wire rules, or does not show the very wires of the sheet.
+    fn try_wires(
+        &mut self,
+        tally: &mut Tally,
+        sheet: &Sheet,
+        records: usize,
+    ) -> Result<(), Failure> {
+        let film = part(&self.film, records.saturating_mul(5));
+        let Some(points) = self.points.points(film, &sheet.nodes, sheet.streets)? else {
+            return Part::Wires.holds(false);
+        };
+        tally.count_film(records, points);
+        Part::Wires.holds(shows(&mut self.points, &sheet.nodes, sheet.streets))
     }
-    tally::count_film(words, records, points);
-    secondreader::picture::shows(store, n, streets)
-}
 
-fn film_fault(
-    store: &mut [u8],
-    words: &mut [usize],
-    n: usize,
-    len: usize,
-    film: &mut [u8; 40960],
-    records: usize,
-    seed: usize,
-) -> usize {
-    let need = film_need(records);
-    let refused = refuses_film(store, words, len, film, need, seed);
-    let drawn = draws(
-        store,
-        words,
-        len,
-        film,
-        plus(need, seed % 9),
-        need,
-        answer(0, records),
-        seed,
-    );
-    let legal = is_legal(store, words, n, film, records);
-    failing_part(refused, drawn, legal, 4)
-}
+    // Tries the film of a sheet without a fault, which has so many nets.
+    pub fn try_legal(
+        &mut self,
+        trial: &mut SheetTrial,
+        sheet: &Sheet,
+        nets: usize,
+    ) -> Result<(), Failure> {
+        let records = record_count(&sheet.nodes, nets, sheet.streets);
+        let need = records.saturating_mul(5);
+        self.try_short(trial, need)?;
+        let call = Call {
+            part: Part::Drawer,
+            lent: need.saturating_add(trial.seed % 9),
+            written: need,
+            wanted: Said {
+                number: 0,
+                place: records,
+            },
+        };
+        self.try_call(trial, call)?;
+        self.try_wires(trial.tally, sheet, records)
+    }
 
-// What is wrong with the film of a sheet of `n` nodes without a fault, if anything is.
-pub fn drawing_fault(
-    store: &mut [u8],
-    words: &mut [usize],
-    n: usize,
-    len: usize,
-    nets: usize,
-    seed: usize,
-) -> usize {
-    let mut film = [0u8; 40960];
-    let records = secondfilm::sheets::records(store, n, nets, pair(store));
-    film_fault(store, words, n, len, &mut film, records, seed)
-}
-
-// Whether the drawer refuses the sheet as it has to, and leaves the film as it was, however long it is.
-pub fn is_undrawn(store: &[u8], words: &mut [usize], len: usize, want: usize, seed: usize) -> bool {
-    let mut film = [0u8; 40960];
-    draws(store, words, len, &mut film, seed % 97, 0, want, seed)
+    // Tries that the drawer refuses a sheet as it has to, and leaves the film as it was, however long it is.
+    pub fn try_refused(&mut self, trial: &mut SheetTrial, wanted: Said) -> Result<(), Failure> {
+        let call = Call {
+            part: Part::Refusal,
+            lent: trial.seed % 97,
+            written: 0,
+            wanted,
+        };
+        self.try_call(trial, call)
+    }
 }

@@ -1,5 +1,6 @@
 // Rows and sheets by lot, for the trials.
 #![tactic(auto)]
 
+pub mod generator;
 pub mod rows;
 pub mod sheets;

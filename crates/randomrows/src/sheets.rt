@@ -1,131 +1,169 @@
 // Random sheets: of a placing by lot, which need not be the first, with any numbers of wires above its blanks; and most of them damaged.
-use crate::rows::{draw, make, note, position};
-use secondfilm::sheets::{pack, sheet_need};
-use secondrouter::cells::{KINDS, OWN, PLACES, SHEET, carry, less, num, plus, set};
-use secondrouter::nets::{BLANK, FIRST, LAST};
+use crate::generator::Generator;
+use crate::rows::{RowMaker, position};
+use secondfilm::sheets::pack;
+use secondrouter::nets::{Kind, Node};
+use secondrouter::streets::Streets;
+use std::alloc::{AllocError, Global};
 
-// Changes a node's kind or position, as the lot says, before the sheet is packed: 8 and 9 any node's kind, 10 and 11 a position, 12 the last node's kind.
-fn spoil_node(store: &mut [u8], words: &mut [usize], n: usize, lot: usize) {
-    let i = draw(words, n);
-    let kind = draw(words, 4);
-    let p = draw(words, 8);
-    match lot {
-        8 | 9 => set(store, KINDS, i, kind),
-        10 | 11 => set(store, PLACES, i, p),
-        12 => set(store, KINDS, less(n, 1), kind),
-        _ => {}
+// What is wrong with a sheet.
+#[derive(Clone, Copy, PartialEq, Eq)]
+enum Damage {
+    Nothing,
+    // It is given any length.
+    Length,
+    // Any node has any kind, or a position, or the last node any kind.
+    Kind,
+    Position,
+    LastKind,
+    // Any bit is turned, or one of the first two bytes.
+    AnyBit,
+    HeadBit,
+    // The last bit is set: one of the padding, where there is any.
+    LastBit,
+}
+
+impl Damage {
+    // In seven of sixteen cases none.
+    fn by_lot(lot: &mut Generator) -> Damage {
+        match lot.draw(16) {
+            7 => Damage::Length,
+            8 | 9 => Damage::Kind,
+            10 | 11 => Damage::Position,
+            12 => Damage::LastKind,
+            13 => Damage::AnyBit,
+            14 => Damage::HeadBit,
+            15 => Damage::LastBit,
+            _ => Damage::Nothing,
+        }
+    }
+
+    // Changes a node's kind or position, before the sheet is packed.
+    fn spoil_node(self, lot: &mut Generator, nodes: &mut [Node]) {
+        let i = lot.draw(nodes.len());
+        let kind = Kind::from_bits(lot.draw(4));
+        let position = lot.draw(8);
+        let i = if self == Damage::LastKind {
+            nodes.len().saturating_sub(1)
+        } else {
+            i
+        };
+        if let Some(node) = nodes.get_mut(i) {
+            match self {
+                Damage::Kind | Damage::LastKind => node.kind = kind,
+                Damage::Position => node.position = position,
+                _ => {}
+            }
+        }
+    }
+
+    // Changes the packed sheet's bytes.
+    fn spoil_bytes(self, lot: &mut Generator, sheet: &mut [u8]) {
+        match self {
+            Damage::AnyBit => turn_bit(sheet, lot.draw(sheet.len().saturating_mul(8))),
+            Damage::HeadBit => turn_bit(sheet, lot.draw(16)),
+            Damage::LastBit => set_last(sheet),
+            _ => {}
+        }
+    }
+
+    // Changes the length that the sheet is given.
+    fn spoil_length(self, lot: &mut Generator, sheet: &mut Vec<u8>) -> Result<(), AllocError> {
+        if self == Damage::Length {
+            let len = lot.draw(sheet.len().saturating_add(4));
+            sheet.resize(len, 0)?;
+        }
+        Ok(())
     }
 }
 
-// Turns one of the first `bits` bits of the sheet.
-fn turn_bit(store: &mut [u8], words: &mut [usize], bits: usize) {
-    let k = draw(words, bits);
-    set(
-        store,
-        SHEET,
-        k / 8,
-        num(store, SHEET, k / 8) ^ (1 << (k % 8)),
-    );
-}
-
-fn bits_of(len: usize) -> usize {
-    if len < 65536 { len * 8 } else { 0 }
-}
-
-// Sets the sheet's last bit: one of the padding, where there is any.
-fn set_last(store: &mut [u8], len: usize) {
-    let k = less(len, 1);
-    set(store, SHEET, k, num(store, SHEET, k) | 1);
-}
-
-// Changes the packed sheet of `len` bytes, as the lot says: 13 any bit, 14 a bit of its first two bytes, 15 its last bit.
-fn spoil_bytes(store: &mut [u8], words: &mut [usize], len: usize, lot: usize) {
-    match lot {
-        13 => turn_bit(store, words, bits_of(len)),
-        14 => turn_bit(store, words, 16),
-        15 => set_last(store, len),
-        _ => {}
+// Turns bit `k`, counted from each byte's lowest.
+fn turn_bit(sheet: &mut [u8], k: usize) {
+    if let Some(byte) = sheet.get_mut(k / 8) {
+        *byte ^= 1 << (k % 8);
     }
 }
 
-// The length that the sheet is given: any, where the lot is 7.
-fn spoilt_length(words: &mut [usize], len: usize, lot: usize) -> usize {
-    if lot == 7 {
-        return draw(words, plus(len, 4));
+fn set_last(sheet: &mut [u8]) {
+    if let Some(byte) = sheet.last_mut() {
+        *byte |= 1;
     }
-    len
 }
 
-// Packs the kinds and positions of `n` nodes as the sheet that is given, and returns its length.
-fn give(store: &mut [u8], n: usize, pair: usize) -> usize {
-    pack(store, n, pair);
-    carry(store, OWN, SHEET, 0, sheet_need(n));
-    sheet_need(n)
-}
-
-// Makes a sheet of `n` nodes and its row, damages it in nine cases of sixteen, and returns its length.
+// Makes a sheet of `count` nodes, whose row the maker then has, and damages it in nine cases of sixteen.
 pub fn make_sheet(
-    store: &mut [u8],
-    words: &mut [usize],
-    n: usize,
-    pair: usize,
+    alloc: Global,
+    maker: &mut RowMaker,
+    count: usize,
+    streets: Streets,
     share: usize,
-) -> usize {
-    let lot = draw(words, 16);
-    make(store, words, n, pair, share);
-    spoil_node(store, words, n, lot);
-    let len = give(store, n, pair);
-    spoil_bytes(store, words, len, lot);
-    spoilt_length(words, len, lot)
+) -> Result<Vec<u8>, AllocError> {
+    let damage = Damage::by_lot(&mut maker.lot);
+    maker.make(count, streets, share)?;
+    damage.spoil_node(&mut maker.lot, &mut maker.nodes);
+    let mut sheet = pack(alloc, &maker.nodes, streets)?;
+    damage.spoil_bytes(&mut maker.lot, &mut sheet);
+    damage.spoil_length(&mut maker.lot, &mut sheet)?;
+    Ok(sheet)
 }
 
 // Whether a net begins at the next node of nets of two nodes, `left` nodes before the end.
-fn begins(words: &mut [usize], open: usize, left: usize, pair: usize) -> bool {
+fn begins(lot: &mut Generator, open: usize, left: usize, streets: Streets) -> bool {
     if open == 0 {
         return true;
     }
-    if left <= open {
+    if left <= open || streets.tracks() <= open {
         return false;
     }
-    if pair / 4 + pair % 4 <= open {
-        return false;
-    }
-    draw(words, 2) == 0
+    lot.draw(2) == 0
 }
 
-// Makes node `i` of nets of two nodes, and returns how many are open after it.
-fn pair_node(
-    store: &mut [u8],
-    words: &mut [usize],
-    i: usize,
-    open: usize,
-    left: usize,
-    pair: usize,
-) -> usize {
-    if begins(words, open, left, pair) {
-        let p = position(words, false, plus(open, 1), pair);
-        note(store, i, FIRST, p);
-        return plus(open, 1);
+// Adds nets of two nodes: an even number of nodes.
+fn add_pairs(
+    lot: &mut Generator,
+    nodes: &mut Vec<Node>,
+    count: usize,
+    streets: Streets,
+) -> Result<(), AllocError> {
+    let mut open: usize = 0;
+    for left in (1..=count).rev() {
+        if begins(lot, open, left, streets) {
+            open = open.saturating_add(1);
+            nodes.push(Node::new(Kind::First, position(lot, streets, false, open)))?;
+        } else {
+            nodes.push(Node::new(Kind::Last, position(lot, streets, false, open)))?;
+            open = open.saturating_sub(1);
+        }
     }
-    let p = position(words, false, open, pair);
-    note(store, i, LAST, p);
-    less(open, 1)
+    Ok(())
 }
 
-// Writes nets of two nodes from node `from` to before node `to`: an even number of nodes.
-fn pairs(store: &mut [u8], words: &mut [usize], from: usize, to: usize, pair: usize) {
-    let mut open = 0;
-    for i in from..to {
-        open = pair_node(store, words, i, open, to - i, pair);
+// The nodes of a crowded sheet: 256 nets of two, or 255 between two blanks.
+fn crowd(
+    lot: &mut Generator,
+    nodes: &mut Vec<Node>,
+    streets: Streets,
+    has_blanks: bool,
+) -> Result<(), AllocError> {
+    nodes.clear();
+    if !has_blanks {
+        return add_pairs(lot, nodes, 512, streets);
     }
+    nodes.push(Node::new(Kind::Blank, 0))?;
+    add_pairs(lot, nodes, 510, streets)?;
+    nodes.push(Node::new(Kind::Blank, 0))?;
+    Ok(())
 }
 
-// Makes a sheet of 512 nodes in nets of two, and returns its length: 256 nets, or 255 between two blanks. Five of sixteen are damaged at a node.
-pub fn make_crowded(store: &mut [u8], words: &mut [usize], pair: usize, blanks: usize) -> usize {
-    note(store, 0, BLANK, 0);
-    note(store, 511, BLANK, 0);
-    pairs(store, words, blanks, less(512, blanks), pair);
-    let lot = draw(words, 16);
-    spoil_node(store, words, 512, lot);
-    give(store, 512, pair)
+// Makes a sheet of 512 nodes in nets of two: 256 nets, or 255 between two blanks. Five of sixteen are damaged at a node.
+pub fn make_crowded(
+    alloc: Global,
+    maker: &mut RowMaker,
+    streets: Streets,
+    has_blanks: bool,
+) -> Result<Vec<u8>, AllocError> {
+    crowd(&mut maker.lot, &mut maker.nodes, streets, has_blanks)?;
+    let damage = Damage::by_lot(&mut maker.lot);
+    damage.spoil_node(&mut maker.lot, &mut maker.nodes);
+    pack(alloc, &maker.nodes, streets)
 }

@@ -1,146 +1,101 @@
 // Random rows of five sorts, each tested under its pair of streets.
-use randomrows::rows::{STATE, draw, fresh, make};
-use secondrouter::cells::{ROW, plus, set, set_word};
+use randomrows::generator::Generator;
+use randomrows::rows::RowMaker;
+use secondrouter::streets::Streets;
 use std::io;
-use tallies::tally;
+use tallies::source::Source;
+use trials::trial::Trials;
 
-// The length of a row, by lot: 2 to 64 nodes, or 100 to 512.
-pub fn length(words: &mut [usize], is_long: bool) -> usize {
-    if is_long {
-        return plus(100, draw(words, 413));
-    }
-    plus(2, draw(words, 63))
+// How many nodes rows have: 2 to 64, or 100 to 512.
+#[derive(Clone, Copy)]
+pub enum Length {
+    Short,
+    Long,
 }
+
+impl Length {
+    // A number of nodes, by lot.
+    pub fn by_lot(self, lot: &mut Generator) -> usize {
+        match self {
+            Length::Short => lot.draw(63).saturating_add(2),
+            Length::Long => lot.draw(413).saturating_add(100),
+        }
+    }
+}
+
+// Random rows that are tested as one source, with every pair of streets in turn.
+#[derive(Clone, Copy)]
+pub struct Sort {
+    source: Source,
+    count: usize,
+    length: Length,
+    has_blanks: bool,
+}
+
+pub const SHORT: Sort = Sort {
+    source: Source::Short,
+    count: 32000,
+    length: Length::Short,
+    has_blanks: false,
+};
+
+pub const LONG: Sort = Sort {
+    source: Source::Long,
+    count: 1024,
+    length: Length::Long,
+    has_blanks: false,
+};
+
+pub const BLANK_SHORT: Sort = Sort {
+    source: Source::BlankShort,
+    count: 24000,
+    length: Length::Short,
+    has_blanks: true,
+};
+
+pub const BLANK_LONG: Sort = Sort {
+    source: Source::BlankLong,
+    count: 1024,
+    length: Length::Long,
+    has_blanks: true,
+};
 
 // How many of sixteen nodes are to be blank, by lot: in one row of eight all of them.
-pub fn share(words: &mut [usize]) -> usize {
-    if draw(words, 8) == 0 {
+pub fn share(lot: &mut Generator) -> usize {
+    if lot.draw(8) == 0 {
         return 16;
     }
-    plus(1, draw(words, 12))
+    lot.draw(12).saturating_add(1)
 }
 
-// Tests a row of this length, with such a share of blanks, and counts it at word `source`.
-fn test_one(
-    rt: &impl Print,
-    store: &mut [u8],
-    words: &mut [usize],
-    n: usize,
-    pair: usize,
-    share: usize,
-    source: usize,
-) -> io::Result<()> {
-    make(store, words, n, pair, share);
-    tally::add(words, source, 1);
-    tally::count_pair(words, pair);
-    trials::trial::test(rt, store, words, n, pair)
-}
-
-// Tests `count` random rows without blanks, with every pair of streets in turn.
-fn test_sort(
-    rt: &impl Print,
-    store: &mut [u8],
-    words: &mut [usize],
-    count: usize,
-    is_long: bool,
-    source: usize,
-) -> io::Result<()> {
-    for k in 0..count {
-        let n = length(words, is_long);
-        test_one(rt, store, words, n, k % 16, 0, source)?;
+// Tests random rows of a sort, and prints what came of them.
+pub fn test(trials: &mut Trials<impl Print>, maker: &mut RowMaker, sort: Sort) -> io::Result<()> {
+    for k in 0..sort.count {
+        let streets = Streets::nth(k);
+        let count = sort.length.by_lot(&mut maker.lot);
+        let blanks = if sort.has_blanks {
+            share(&mut maker.lot)
+        } else {
+            0
+        };
+        maker.make(count, streets, blanks)?;
+        trials.tally.count_source_row();
+        trials.tally.count_pair(streets);
+        trials.test_row(&maker.row, streets)?;
     }
-    Ok(())
+    trials.report_source(sort.source)
 }
 
-// Tests `count` random rows with blanks, with every pair of streets in turn.
-fn test_blanks(
-    rt: &impl Print,
-    store: &mut [u8],
-    words: &mut [usize],
-    count: usize,
-    is_long: bool,
-    source: usize,
-) -> io::Result<()> {
-    for k in 0..count {
-        let n = length(words, is_long);
-        let blanks = share(words);
-        test_one(rt, store, words, n, k % 16, blanks, source)?;
-    }
-    Ok(())
-}
-
-// Tests random rows of 2 to 64 nodes.
-pub fn test_short(rt: &impl Print, store: &mut [u8], words: &mut [usize]) -> io::Result<()> {
-    set_word(words, 0, STATE, 20611);
-    test_sort(rt, store, words, 32000, false, tally::SHORT)?;
-    tally::report_source(
-        rt,
-        words,
-        tally::SHORT,
-        b" random rows of 2 to 64 nodes, by layers of orders\n",
-    )
-}
-
-// Tests random rows of 100 to 512 nodes.
-pub fn test_long(rt: &impl Print, store: &mut [u8], words: &mut [usize]) -> io::Result<()> {
-    test_sort(rt, store, words, 1024, true, tally::LONG)?;
-    tally::report_source(
-        rt,
-        words,
-        tally::LONG,
-        b" random rows of 100 to 512 nodes, by layers of orders\n",
-    )
-}
-
-// Tests random rows of 2 to 64 nodes with blanks.
-pub fn test_short_blanks(rt: &impl Print, store: &mut [u8], words: &mut [usize]) -> io::Result<()> {
-    test_blanks(rt, store, words, 24000, false, tally::BLANK_SHORT)?;
-    tally::report_source(
-        rt,
-        words,
-        tally::BLANK_SHORT,
-        b" random rows with blanks of 2 to 64 nodes, by layers of orders\n",
-    )
-}
-
-// Tests random rows of 100 to 512 nodes with blanks.
-pub fn test_long_blanks(rt: &impl Print, store: &mut [u8], words: &mut [usize]) -> io::Result<()> {
-    test_blanks(rt, store, words, 1024, true, tally::BLANK_LONG)?;
-    tally::report_source(
-        rt,
-        words,
-        tally::BLANK_LONG,
-        b" random rows with blanks of 100 to 512 nodes, by layers of orders\n",
-    )
-}
-
-// Makes a row of which one node has a label of its own, with blanks where k / 16 is odd, and tests it.
-fn test_with_lone(
-    rt: &impl Print,
-    store: &mut [u8],
-    words: &mut [usize],
-    n: usize,
-    k: usize,
-) -> io::Result<()> {
-    let blanks = share(words);
-    make(
-        store,
-        words,
-        n,
-        k % 16,
-        if k / 16 % 2 == 0 { 0 } else { blanks },
-    );
-    let x = fresh(store, words);
-    set(store, ROW, draw(words, n), x);
-    tally::add(words, tally::WITH_LONE, 1);
-    trials::trial::test(rt, store, words, n, k % 16)
-}
-
-// Tests random rows with a lone label, half of them with blanks.
-pub fn test_lone(rt: &impl Print, store: &mut [u8], words: &mut [usize]) -> io::Result<()> {
+// Tests random rows with a lone label, with blanks where k / 16 is odd.
+pub fn test_lone(trials: &mut Trials<impl Print>, maker: &mut RowMaker) -> io::Result<()> {
     for k in 0..1024 {
-        let n = length(words, false);
-        test_with_lone(rt, store, words, n, k)?;
+        let streets = Streets::nth(k);
+        let count = Length::Short.by_lot(&mut maker.lot);
+        let blanks = share(&mut maker.lot);
+        maker.make(count, streets, if k / 16 % 2 == 0 { 0 } else { blanks })?;
+        maker.make_lone();
+        trials.tally.count_lone_row();
+        trials.test_row(&maker.row, streets)?;
     }
     Ok(())
 }

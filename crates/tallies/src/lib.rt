@@ -1,5 +1,7 @@
-// What every trial of a row uses: the counts and their printing, and the patterns of lent buffers.
+// What every trial uses: what fails, the counts and their printing, and the patterns of lent buffers.
 #![tactic(auto)]
 
+pub mod failure;
 pub mod patterns;
+pub mod source;
 pub mod tally;

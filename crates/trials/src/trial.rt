@@ -1,283 +1,250 @@
 // One row under one pair of streets: every answer and every byte of the library against the second router's.
-use secondfilm::sheets::{sheet_need, work_need};
-use secondrouter::cells::{OTHERS, OWN, PLACES, SHEET, answer, equal, less, plus};
+use answers::Said;
+use filmtrials::films::SheetTrial;
+use secondfilm::sheets::{pack, sheet_need, work_need};
+use secondrouter::depth;
+use secondrouter::layers::Layers;
+use secondrouter::nets::{Node, nodes_of};
+use secondrouter::streets::Streets;
+use sheettrials::sheets::SheetTrials;
+use std::alloc::{AllocError, Global};
 use std::io;
-use tallies::patterns::{fill, is_clear, keep, keeps, upto};
-use tallies::tally;
-use tallies::tally::{code, is_wanted};
+use tallies::failure::{Failure, Part, Subject};
+use tallies::patterns::{fill, is_clear, keeps, part, part_mut};
+use tallies::source::Source;
+use tallies::tally::Tally;
 
-// What stands for the failing node where the two searches of the second router differ: no node.
-const SPLIT: usize = 99999;
-// What stands for the library's answer where the work space is not left as it has to be: no answer has this place.
-const SPOILT: usize = 99998;
+// The most bytes that are lent to the router as work space and for the sheet.
+const WORK: usize = 46208;
 
-fn low(x: usize) -> u8 {
-    (x % 256) as u8
+const SHEET: usize = 640;
+
+// The longest rows that the depth first search of the second router places too.
+const SHORT: usize = 9;
+
+// The trial of a row under a pair of streets, and the number that seeds its patterns and its choices.
+#[derive(Clone, Copy)]
+struct RowTrial<'a> {
+    row: &'a [u8],
+    streets: Streets,
+    seed: usize,
 }
 
-// The router's answer to the row of `n` nodes, with so many bytes lent.
-fn ask_router(
-    store: &[u8],
-    n: usize,
-    ku: usize,
-    kl: usize,
-    work: &mut [u8],
-    work_len: usize,
-    sheet: &mut [u8],
-    sheet_len: usize,
-) -> usize {
-    let start = 0;
-    let a = upto(n, store.len());
-    let b = upto(work_len, work.len());
-    let c = upto(sheet_len, sheet.len());
-    code(answers::route_said(router::route(
-        &store[start..a],
-        low(ku),
-        low(kl),
-        &mut work[start..b],
-        &mut sheet[start..c],
-    )))
+// A call of the router: the row, how many bytes it is lent, and what it has to say and to write.
+#[derive(Clone, Copy)]
+struct Call<'a> {
+    part: Part,
+    trial: RowTrial<'a>,
+    work: usize,
+    sheet: usize,
+    wanted: Said,
+    packed: &'a [u8],
 }
 
-// Zero after 0 and 6 for 90 bytes a node, and the pattern behind; the pattern everywhere after the others.
-fn work_is_right(work: &[u8], work_len: usize, n: usize, number: usize, seed: usize) -> bool {
-    let need = work_need(n);
-    match number {
-        0 | 6 => {
-            if !is_clear(work, need) {
-                return false;
-            }
-            keeps(work, 0, need, work_len, seed)
+// What the router's first tests refuse: a work space and a sheet one byte short, and a lower street too wide with both.
+#[derive(Clone, Copy)]
+enum FirstTest {
+    Work,
+    Sheet,
+    Tracks,
+}
+
+impl<'a> RowTrial<'a> {
+    // A call that the first tests let pass, for a row whose sheet is packed if it has one.
+    fn call(self, wanted: Said, packed: &'a [u8]) -> Call<'a> {
+        Call {
+            part: Part::Router,
+            trial: self,
+            work: work_need(self.row.len()).saturating_add(self.seed % 7),
+            sheet: sheet_need(self.row.len()).saturating_add(self.seed % 5),
+            wanted,
+            packed,
         }
-        _ => keeps(work, 0, 0, work_len, seed),
     }
-}
 
-// The router's answer, with buffers that hold the pattern of `seed`; the sheet buffer is then kept in the store.
-fn route_with(
-    store: &mut [u8],
-    n: usize,
-    ku: usize,
-    kl: usize,
-    work: &mut [u8; 46208],
-    work_len: usize,
-    sheet: &mut [u8; 640],
-    sheet_len: usize,
-    seed: usize,
-) -> usize {
-    fill(work, 0, work_len, seed);
-    fill(sheet, 0, sheet_len, seed);
-    let said = ask_router(store, n, ku, kl, work, work_len, sheet, sheet_len);
-    keep(store, SHEET, sheet, sheet_len);
-    if work_is_right(work, work_len, n, said / 100000, seed) {
-        said
-    } else {
-        SPOILT
-    }
-}
-
-fn route(
-    store: &mut [u8],
-    n: usize,
-    ku: usize,
-    kl: usize,
-    work_len: usize,
-    sheet_len: usize,
-    seed: usize,
-) -> usize {
-    let mut work = [0u8; 46208];
-    let mut sheet = [0u8; 640];
-    route_with(
-        store, n, ku, kl, &mut work, work_len, &mut sheet, sheet_len, seed,
-    )
-}
-
-// Whether the router gives the wanted answer, with the right bytes in both buffers.
-fn routes(
-    store: &mut [u8],
-    words: &mut [usize],
-    n: usize,
-    ku: usize,
-    kl: usize,
-    work_len: usize,
-    sheet_len: usize,
-    want: usize,
-    seed: usize,
-) -> bool {
-    let said = route(store, n, ku, kl, work_len, sheet_len, seed);
-    if !is_wanted(words, said, want) {
-        return false;
-    }
-    equal(store, SHEET, OWN, sheet_len)
-}
-
-// Prepares the sheet buffer as it has to be after the wanted answer.
-fn prepare(store: &mut [u8], n: usize, pair: usize, want: usize, sheet_len: usize, seed: usize) {
-    fill(store, OWN, sheet_len, seed);
-    if want == answer(0, n) {
-        secondfilm::sheets::pack(store, n, pair);
-    }
-}
-
-fn routes_rightly(
-    store: &mut [u8],
-    words: &mut [usize],
-    n: usize,
-    pair: usize,
-    want: usize,
-    seed: usize,
-) -> bool {
-    let work_len = plus(work_need(n), seed % 7);
-    let sheet_len = plus(sheet_need(n), seed % 5);
-    prepare(store, n, pair, want, sheet_len, seed);
-    routes(
-        store,
-        words,
-        n,
-        pair / 4,
-        pair % 4,
-        work_len,
-        sheet_len,
-        want,
-        seed,
-    )
-}
-
-// The place of the first node without a choice by layers, where depth first finds the same; no node if they differ.
-fn both(store: &[u8], n: usize, place: usize, served: usize) -> usize {
-    if place != 0 {
-        return if plus(served, 1) == place {
-            place
-        } else {
-            SPLIT
+    // A call that a first test refuses.
+    fn early_call(self, test: FirstTest) -> Call<'a> {
+        let RowTrial { row, streets, .. } = self;
+        let work = work_need(row.len());
+        let sheet = sheet_need(row.len());
+        let (number, work, sheet, lower) = match test {
+            FirstTest::Work => (4, work.saturating_sub(1), sheet, streets.lower),
+            FirstTest::Sheet => (5, work, sheet.saturating_sub(1), streets.lower),
+            FirstTest::Tracks => (2, work.saturating_sub(1), sheet.saturating_sub(1), 4),
         };
-    }
-    if served != n {
-        return SPLIT;
-    }
-    if equal(store, PLACES, OTHERS, n) {
-        0
-    } else {
-        SPLIT
-    }
-}
-
-// The place of the first node without a choice, 0 if there is none: by both ways for short rows, and by layers for others.
-fn failing(store: &mut [u8], words: &mut [usize], n: usize, pair: usize) -> usize {
-    if 9 < n {
-        return secondrouter::layers::search(store, words, n, pair, PLACES);
-    }
-    let place = secondrouter::layers::search(store, words, n, pair, OTHERS);
-    let served = secondrouter::depth::search(store, n, pair);
-    both(store, n, place, served)
-}
-
-// The answer that documents 01 and 02 want of a row without lone labels.
-fn placed(store: &mut [u8], words: &mut [usize], n: usize, pair: usize) -> usize {
-    secondrouter::nets::opens(store, n);
-    let place = failing(store, words, n, pair);
-    if place == 0 {
-        answer(0, n)
-    } else {
-        answer(6, place)
-    }
-}
-
-// The answer that documents 01 and 02 want of a row that passes tests 1, 2, 4 and 5.
-fn wanted(store: &mut [u8], words: &mut [usize], n: usize, pair: usize) -> usize {
-    secondrouter::nets::kinds(store, n);
-    let lone = secondrouter::nets::lone(store, n);
-    if lone != 0 {
-        return answer(3, lone);
-    }
-    placed(store, words, n, pair)
-}
-
-fn one_if(test: bool) -> usize {
-    if test { 1 } else { 0 }
-}
-
-// The number of the first tests that are tried: a work space and a sheet one byte short, and a lower street too wide with both.
-fn early_number(which: usize) -> usize {
-    match which {
-        0 => 4,
-        1 => 5,
-        _ => 2,
-    }
-}
-
-// Whether one of the router's first tests is refused with its number, and both buffers are left as they were.
-fn refuses(store: &mut [u8], words: &mut [usize], n: usize, pair: usize, which: usize) -> bool {
-    let work_len = less(work_need(n), one_if(which != 1));
-    let sheet_len = less(sheet_need(n), one_if(which != 0));
-    let kl = if which == 2 { 4 } else { pair % 4 };
-    fill(store, OWN, sheet_len, n);
-    tally::add(words, tally::EARLY, 1);
-    routes(
-        store,
-        words,
-        n,
-        pair / 4,
-        kl,
-        work_len,
-        sheet_len,
-        answer(early_number(which), 0),
-        n,
-    )
-}
-
-fn early_fault(store: &mut [u8], words: &mut [usize], n: usize, pair: usize) -> usize {
-    for which in 0..3 {
-        if !refuses(store, words, n, pair, which) {
-            return 7;
+        let upper = streets.upper;
+        Call {
+            part: Part::FirstTests,
+            trial: RowTrial {
+                row,
+                streets: Streets { upper, lower },
+                seed: row.len(),
+            },
+            work,
+            sheet,
+            wanted: Said { number, place: 0 },
+            packed: &[],
         }
     }
-    0
 }
 
-// What is wrong besides: with the sheet of an accepted row, or with the router's first tests at every eighth other.
-fn later_fault(
-    store: &mut [u8],
-    words: &mut [usize],
-    n: usize,
-    pair: usize,
-    number: usize,
-    seed: usize,
-) -> usize {
-    if number == 0 {
-        return sheettrials::sheets::row_fault(store, words, n, seed);
+// What the router says of node `i`, which has place i + 1.
+fn at_node(number: u32, i: usize) -> Said {
+    Said {
+        number,
+        place: i.saturating_add(1),
     }
-    if number == 3 {
-        return 0;
-    }
-    if (seed / 16) % 8 != 0 {
-        return 0;
-    }
-    early_fault(store, words, n, pair)
 }
 
-// 0 if all is as it has to be, else the part that is not: 1 the router, 2 the reader, 3 the agreement test, 4 to 6 the drawer (a short film, the answer, the wires), 7 the router's first tests, 8 the second router itself.
-fn fault(store: &mut [u8], words: &mut [usize], n: usize, pair: usize, seed: usize) -> usize {
-    let want = wanted(store, words, n, pair);
-    tally::count_answer(words, want, n);
-    if !routes_rightly(store, words, n, pair, want, seed) {
-        return 1;
+// Whether the work space is zero for 90 bytes a node after 0 and 6, and as it was behind; as it was everywhere after the others.
+fn is_work_right(work: &[u8], need: usize, number: u32, seed: usize) -> bool {
+    match number {
+        0 | 6 => is_clear(part(work, need)) && keeps(work, need, seed),
+        _ => keeps(work, 0, seed),
     }
-    later_fault(store, words, n, pair, want / 100000, seed)
 }
 
-// Tests the first `n` nodes of the row, and counts and prints a disagreement.
-pub fn test(
-    rt: &impl Print,
-    store: &mut [u8],
-    words: &mut [usize],
-    n: usize,
-    pair: usize,
-) -> io::Result<()> {
-    let seed = tally::next_row(words);
-    let part = fault(store, words, n, pair, seed);
-    if part != 0 {
-        tally::disagree(rt, store, words, n, pair, part)?;
+// The trials of rows and sheets: where disagreements are printed, the counts, and the buffers that are lent to the router.
+#[derive(Drop)]
+pub struct Trials<'a, R: Print> {
+    rt: &'a R,
+    pub alloc: Global,
+    pub tally: Tally,
+    layers: Layers,
+    work: Vec<u8>,
+    sheet: Vec<u8>,
+    sheets: SheetTrials,
+}
+
+impl<'a, R: Print> Trials<'a, R> {
+    pub fn new(rt: &'a R, alloc: Global) -> Result<Trials<'a, R>, AllocError> {
+        Ok(Trials {
+            rt,
+            alloc,
+            tally: Tally::default(),
+            layers: Layers::new(alloc),
+            work: vec![in alloc; 0; WORK]?,
+            sheet: vec![in alloc; 0; SHEET]?,
+            sheets: SheetTrials::new(alloc)?,
+        })
     }
-    Ok(())
+
+    // Fails where the router does not say what is wanted, or leaves other bytes in a buffer.
+    fn try_call(&mut self, call: Call) -> Result<(), Failure> {
+        let RowTrial { row, streets, seed } = call.trial;
+        let work = part_mut(&mut self.work, call.work);
+        let sheet = part_mut(&mut self.sheet, call.sheet);
+        fill(work, seed);
+        fill(sheet, seed);
+        let routing = router::route(row, streets.upper, streets.lower, work, sheet);
+        let said = answers::Said::from(routing);
+        call.part.says(said, call.wanted)?;
+        call.part.holds(is_work_right(work, work_need(row.len()), said.number, seed))?;
+        call.part.holds(sheet.starts_with(call.packed))?;
+        call.part.holds(keeps(sheet, call.packed.len(), seed))
+    }
+
+    // Writes the positions of a row's first placing, or says which node has no choice. The two searches of the second router have to agree on short rows.
+    fn place(
+        &mut self,
+        nodes: &mut Vec<Node>,
+        streets: Streets,
+    ) -> Result<Result<(), usize>, Failure> {
+        if SHORT < nodes.len() {
+            return Ok(self.layers.place(nodes, streets)?);
+        }
+        let mut others = nodes.clone()?;
+        let by_depth = depth::place(&mut others, streets);
+        let by_layers = self.layers.place(nodes, streets)?;
+        Part::SecondRouter.holds(by_depth == by_layers)?;
+        Part::SecondRouter.holds(by_layers.is_err() || others == *nodes)?;
+        Ok(by_layers)
+    }
+
+    // The nodes of a row's first placing; or what documents 01 and 02 want of a row that has none, or a lone label.
+    fn placed(&mut self, trial: RowTrial) -> Result<Result<Vec<Node>, Said>, Failure> {
+        let mut nodes = match nodes_of(self.alloc, trial.row)? {
+            Ok(nodes) => nodes,
+            Err(lone) => return Ok(Err(at_node(3, lone))),
+        };
+        match self.place(&mut nodes, trial.streets)? {
+            Ok(()) => Ok(Ok(nodes)),
+            Err(stuck) => Ok(Err(at_node(6, stuck))),
+        }
+    }
+
+    // Tries the router's first tests.
+    fn try_first_tests(&mut self, trial: RowTrial) -> Result<(), Failure> {
+        for test in [FirstTest::Work, FirstTest::Sheet, FirstTest::Tracks] {
+            self.tally.count_early();
+            self.try_call(trial.early_call(test))?;
+        }
+        Ok(())
+    }
+
+    // Tries the router on a row that it has to refuse, and its first tests on every eighth row that has no placing.
+    fn try_refused(&mut self, trial: RowTrial, wanted: Said) -> Result<(), Failure> {
+        self.tally.count_routed(wanted, trial.row.len());
+        self.try_call(trial.call(wanted, &[]))?;
+        if wanted.number == 6 && trial.seed / 16 % 8 == 0 {
+            return self.try_first_tests(trial);
+        }
+        Ok(())
+    }
+
+    // Tries the router on a row that has the placing, and then its sheet.
+    fn try_accepted(&mut self, trial: RowTrial, placing: &[Node]) -> Result<(), Failure> {
+        let RowTrial { row, streets, seed } = trial;
+        let wanted = Said {
+            number: 0,
+            place: row.len(),
+        };
+        let sheet = pack(self.alloc, placing, streets)?;
+        self.tally.count_routed(wanted, row.len());
+        self.try_call(trial.call(wanted, &sheet))?;
+        self.sheets.try_own(&mut SheetTrial {
+            tally: &mut self.tally,
+            sheet: &sheet,
+            row,
+            seed,
+        })
+    }
+
+    fn try_row(&mut self, trial: RowTrial) -> Result<(), Failure> {
+        match self.placed(trial)? {
+            Ok(placing) => self.try_accepted(trial, &placing),
+            Err(wanted) => self.try_refused(trial, wanted),
+        }
+    }
+
+    // Tests a row under a pair of streets, and counts and prints a disagreement.
+    pub fn test_row(&mut self, row: &[u8], streets: Streets) -> io::Result<()> {
+        let seed = self.tally.next_row();
+        let outcome = self.try_row(RowTrial { row, streets, seed });
+        self.tally
+            .count_outcome(self.rt, Subject::Row { row, streets }, outcome)
+    }
+
+    // Tests a sheet with a row, and counts and prints a disagreement.
+    pub fn test_sheet(&mut self, row: &[u8], sheet: &[u8]) -> io::Result<()> {
+        let seed = self.tally.next_sheet();
+        let outcome = self.sheets.try_sheet(&mut SheetTrial {
+            tally: &mut self.tally,
+            sheet,
+            row,
+            seed,
+        });
+        self.tally
+            .count_outcome(self.rt, Subject::Sheet { sheet, row }, outcome)
+    }
+
+    // Prints what came of the rows of a source.
+    pub fn report_source(&mut self, source: Source) -> io::Result<()> {
+        self.tally.report_source(self.rt, source)
+    }
+
+    // Prints the counts over all sources.
+    pub fn report(&self) -> io::Result<()> {
+        self.tally.report(self.rt)
+    }
 }

@@ -1,0 +1,137 @@
+// The agreement test of a sheet, with a row and with rows near it.
+use filmtrials::films::SheetTrial;
+use secondreader::judge::joins_alike;
+use secondrouter::nets::{BLANK_LABEL, Node};
+use std::alloc::{AllocError, Global};
+use tallies::failure::{Failure, Part};
+
+// Fails where the agreement test does not say of a row what it has to; `nodes` are the sheet's, where the reader takes it.
+fn try_row(trial: &mut SheetTrial, nodes: Option<&[Node]>, row: &[u8]) -> Result<(), Failure> {
+    let wanted = nodes.is_some_and(|nodes| joins_alike(row, nodes));
+    let said = sheet::agreement::agrees(row, trial.sheet);
+    trial.tally.count_agreement(wanted);
+    Part::Agreement.holds(said == wanted)
+}
+
+// A label other than that of node `i`, looked for from node `start` on.
+fn other_label(row: &[u8], i: usize, start: usize) -> Option<u8> {
+    let own = row.get(i)?;
+    let (before, after) = row.split_at_checked(start)?;
+    after
+        .iter()
+        .chain(before.iter())
+        .copied()
+        .find(|label| label != own)
+}
+
+// A label that no node of the row has: one of nets where one is left.
+fn unused(row: &[u8]) -> u8 {
+    (0..BLANK_LABEL)
+        .find(|label| !row.contains(label))
+        .unwrap_or(0)
+}
+
+// Another label for node `i`: that of a blank, or one that no node has where that is its own.
+fn blank_or_not(row: &[u8], i: usize) -> u8 {
+    if row.get(i) == Some(&BLANK_LABEL) {
+        unused(row)
+    } else {
+        BLANK_LABEL
+    }
+}
+
+// The node of a row that a number stands for, counted round.
+fn node_of(row: &[u8], number: usize) -> usize {
+    number.checked_rem(row.len()).unwrap_or(0)
+}
+
+// The row that is tried in place of a sheet's own. The memory is kept from one sheet to the next.
+#[derive(Drop)]
+pub struct Agreement {
+    near: Vec<u8>,
+}
+
+impl Agreement {
+    pub fn new(alloc: Global) -> Agreement {
+        Agreement {
+            near: Vec::new(alloc),
+        }
+    }
+
+    fn copy(&mut self, row: &[u8]) -> Result<(), AllocError> {
+        self.near.clear();
+        self.near.extend_from_slice(row)
+    }
+
+    // Tries the row with another label at node `i`.
+    fn try_changed(
+        &mut self,
+        trial: &mut SheetTrial,
+        nodes: Option<&[Node]>,
+        i: usize,
+        label: u8,
+    ) -> Result<(), Failure> {
+        self.copy(trial.row)?;
+        if let Some(node) = self.near.get_mut(i) {
+            *node = label;
+        }
+        try_row(trial, nodes, &self.near)
+    }
+
+    // Tries the row with a node moved to another net, or to the blanks, if there is another label.
+    fn try_moved(&mut self, trial: &mut SheetTrial, nodes: Option<&[Node]>) -> Result<(), Failure> {
+        let row = trial.row;
+        let i = node_of(row, trial.seed / 3);
+        match other_label(row, i, node_of(row, trial.seed / 5)) {
+            Some(label) => self.try_changed(trial, nodes, i, label),
+            None => Ok(()),
+        }
+    }
+
+    // Tries the row with a node left blank, or given a label if it is blank.
+    fn try_blanked(
+        &mut self,
+        trial: &mut SheetTrial,
+        nodes: Option<&[Node]>,
+    ) -> Result<(), Failure> {
+        let row = trial.row;
+        let i = node_of(row, trial.seed / 7);
+        self.try_changed(trial, nodes, i, blank_or_not(row, i))
+    }
+
+    // Tries the row once its blanks are a net.
+    fn try_filled(
+        &mut self,
+        trial: &mut SheetTrial,
+        nodes: Option<&[Node]>,
+    ) -> Result<(), Failure> {
+        self.copy(trial.row)?;
+        let label = unused(trial.row);
+        for node in self.near.iter_mut() {
+            if *node == BLANK_LABEL {
+                *node = label;
+            }
+        }
+        try_row(trial, nodes, &self.near)
+    }
+
+    // Tries the row and rows near it; on every fourth sheet the row with its blanks joined too, and the row without its last node.
+    pub fn try_all(
+        &mut self,
+        trial: &mut SheetTrial,
+        nodes: Option<&[Node]>,
+    ) -> Result<(), Failure> {
+        let row = trial.row;
+        try_row(trial, nodes, row)?;
+        self.try_moved(trial, nodes)?;
+        self.try_blanked(trial, nodes)?;
+        if trial.seed / 16 % 4 != 2 {
+            return Ok(());
+        }
+        self.try_filled(trial, nodes)?;
+        match row.split_last() {
+            Some((_, others)) => try_row(trial, nodes, others),
+            None => Ok(()),
+        }
+    }
+}
