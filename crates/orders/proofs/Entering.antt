@@ -11,6 +11,7 @@ use Rattle.rules.specs.Street.{fits}
 use Rattle.rules.specs.declared.Kind.TheVariants.{B}
 use Rattle.rules.specs.Judgement.{left}
 use Rattle.rules.proofs.Fits.{Fits}
+use Rattle.steps.specs.Plan.{turn_kind}
 use Rattle.steps.specs.declared.plan.Stop.{Stop}
 use Rattle.steps.specs.Ranks.{capacity, fact, RankOf}
 use Rattle.steps.specs.Sets.{word_at, bit, marked}
@@ -26,7 +27,7 @@ use Rattle.steps.proofs.OpeningSteps.{begun, begun-only}
 use Rattle.steps.proofs.OpeningBack.{low-mark, fifth-mark, sixth-two}
 
 -- a B, with marks that hops of it made
-module _ (t : Stop) (s : List ℕ) (g r : ℕ) (sound : Sound t) (kind : t.step.kind ≡ B) (low : r < fact t.step.count)
+module _ (t : Stop) (s : List ℕ) (g r : ℕ) (sound : Sound t) (kind : turn_kind t.step.turn ≡ B) (low : r < fact t.step.count)
     (led : (x : ℕ) → marked s g x ≡ true → Led t x) where
   abbrev b : ℕ
   b = t.step.count

@@ -6,11 +6,11 @@ use native.Mathlib.Omega.{arith}
 use lib.ListN.{length, get_or, take, drop}
 use lib.Seq.{drop-cons}
 use Rattle.std.specs.Prelude.{IsTrue}
-use Rattle.rules.specs.declared.Kind.TheVariants.{B}
 use Rattle.rules.specs.declared.Streets.{Streets}
+use Rattle.steps.specs.declared.plan.Turn.TheVariants.{Begins}
 use Rattle.steps.specs.declared.plan.Step.{Step}
 use Rattle.steps.specs.declared.plan.Stop.{Stop}
-use Rattle.steps.specs.Plan.{step, touches, Steps}
+use Rattle.steps.specs.Plan.{step, turn_kind, touches, Steps}
 use Rattle.steps.specs.Ranks.{RankOf, Way, Ahead}
 use Rattle.steps.specs.Sets.{ranks}
 use Rattle.steps.specs.Stops.{Sound}
@@ -20,7 +20,7 @@ use Rattle.orders.proofs.Ways.{Hopped, first-begins, way-more, way-less, ahead_m
 
 -- node i of a plan; past its end the step that an index is read as there
 abbrev pub none : Step
-none = step B 0 0
+none = step Begins 0
 
 abbrev pub node_at : List Step → ℕ → Step
 node_at ss i = get_or ss i none
@@ -64,10 +64,10 @@ module _ (ss : List Step) (st : Streets) where
         (record { few = r.few; touched = r.touched }, r.rank)
 
     -- a node that touches a net is not the first
-    pub stop-behind : (w : List ℕ) → Given ss w → IsTrue (touches (node_at ss i).kind) → 0 < i
+    pub stop-behind : (w : List ℕ) → Given ss w → IsTrue (touches (turn_kind (node_at ss i).turn)) → 0 < i
     stop-behind w g h = go i l h
       where
-        go : (i : ℕ) → i < length ss → IsTrue (touches (node_at ss i).kind) → 0 < i
+        go : (i : ℕ) → i < length ss → IsTrue (touches (turn_kind (node_at ss i).turn)) → 0 < i
         go zero m h =
             let p : Steps 0 (node_at ss 0 ∷ drop 1 ss) = rw (drop-cons ss 0 none m) at g.plan in
             absurd (first-begins p refl h)

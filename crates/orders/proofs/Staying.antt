@@ -15,8 +15,8 @@ use Rattle.rules.specs.Street.{fits}
 use Rattle.rules.proofs.Fits.{FitsAt}
 use Rattle.rules.proofs.Choices.{lowest-fits, lowest-least}
 use Rattle.steps.specs.declared.plan.Stop.{Stop}
-use Rattle.steps.specs.Plan.{step, touches}
-use Rattle.steps.specs.Ranks.{fact, at_of, less_of, hop_of}
+use Rattle.steps.specs.Plan.{turn_kind, turn_age, touches}
+use Rattle.steps.specs.Ranks.{fact, at_of, less_of, hop_by}
 use Rattle.steps.specs.Sets.{marked}
 use Rattle.steps.specs.Stops.{hop_at, Sound}
 use Rattle.steps.specs.Leading.{Onward, Misses, Least}
@@ -35,20 +35,20 @@ after-touch k a b r e = rw e
 pub after-end : (k : Kind) (a b r : ℕ) → k ≡ E → less_of a b r ≡ after k a b r
 after-end k a b r e = rw e
 
-module _ (t : Stop) (s : List ℕ) (g r : ℕ) (sound : Sound t) (touched : IsTrue (touches t.step.kind)) (low : r < fact t.step.count) where
+module _ (t : Stop) (s : List ℕ) (g r : ℕ) (sound : Sound t) (touched : IsTrue (touches (turn_kind t.step.turn))) (low : r < fact t.step.count) where
   place : ℕ
-  place = at_of t.step.age t.step.count r
+  place = at_of (turn_age t.step.turn) t.step.count r
 
   next : ℕ
-  next = after t.step.kind t.step.age t.step.count r
+  next = after (turn_kind t.step.turn) (turn_age t.step.turn) t.step.count r
 
   hops-there : (p : ℕ) → hop_at t r p ≡ keep (eqb p place && fits t.streets.upper t.streets.lower (suc p) t.step.count) next
-  unfolding hop_of place next
-  hops-there p = go t.step.kind touched
+  unfolding hop_by place next
+  hops-there p = go (turn_kind t.step.turn) touched
     where
       go : (k : Kind) → IsTrue (touches k)
-          → hop_of t.streets.upper t.streets.lower (step k t.step.age t.step.count) r p
-          ≡ keep (eqb p (at_of t.step.age t.step.count r) && fits t.streets.upper t.streets.lower (suc p) t.step.count) (after k t.step.age t.step.count r)
+          → hop_by t.streets.upper t.streets.lower k (turn_age t.step.turn) t.step.count r p
+          ≡ keep (eqb p (at_of (turn_age t.step.turn) t.step.count r) && fits t.streets.upper t.streets.lower (suc p) t.step.count) (after k (turn_age t.step.turn) t.step.count r)
       go B h = absurd (of-true h)
       go M h = refl
       go E h = refl
@@ -59,7 +59,7 @@ module _ (t : Stop) (s : List ℕ) (g r : ℕ) (sound : Sound t) (touched : IsTr
   elsewhere q h x e k = let z : hop_at t r q ≡ none = hops-there q ∙ rw (ne_eqb q place h) in none-some z e
 
   -- the position that leads on is the net's one
-  pub leads-at : (o : Onward t s g r) → o.leads.at ≡ at_of t.step.age t.step.count r
+  pub leads-at : (o : Onward t s g r) → o.leads.at ≡ at_of (turn_age t.step.turn) t.step.count r
   unfolding place
   leads-at o = go (eqb o.leads.at place) refl
     where
@@ -68,7 +68,7 @@ module _ (t : Stop) (s : List ℕ) (g r : ℕ) (sound : Sound t) (touched : IsTr
       go false d = absurd (elsewhere o.leads.at (eqb-false o.leads.at place d) o.next o.leads.lands o.kept)
 
   -- and the least
-  pub stays : (o : Onward t s g r) (p x : ℕ) → p ≡ o.leads.at → x ≡ after t.step.kind t.step.age t.step.count r → Least t s g r p x
+  pub stays : (o : Onward t s g r) (p x : ℕ) → p ≡ o.leads.at → x ≡ after (turn_kind t.step.turn) (turn_age t.step.turn) t.step.count r → Least t s g r p x
   unfolding place next
   stays o p x ep ex = at_place (eqb p place) refl
     where
@@ -89,17 +89,17 @@ module _ (t : Stop) (s : List ℕ) (g r : ℕ) (sound : Sound t) (touched : IsTr
       at_place false d = absurd (elsewhere p (eqb-false p place d) o.next e o.kept)
 
 -- at a blank, where the order stays, the least position is with as few wires above as the lower street allows
-pub rests : (t : Stop) (s : List ℕ) (g r : ℕ) → Sound t → t.step.kind ≡ N → Onward t s g r → (p : ℕ) → p ≡ t.step.count - t.streets.lower → Least t s g r p r
+pub rests : (t : Stop) (s : List ℕ) (g r : ℕ) → Sound t → turn_kind t.step.turn ≡ N → Onward t s g r → (p : ℕ) → p ≡ t.step.count - t.streets.lower → Least t s g r p r
 rests t s g r sound blank o p ep =
-    let f = hop-rested t.streets.upper t.streets.lower t.step.kind t.step.age t.step.count r o.leads.at o.next blank o.leads.lands in
-    let e = hop-still t.streets.upper t.streets.lower t.step.kind t.step.age t.step.count r o.leads.at o.next (rw blank refl) o.leads.lands in
+    let f = hop-rested t.streets.upper t.streets.lower (turn_kind t.step.turn) (turn_age t.step.turn) t.step.count r o.leads.at o.next blank o.leads.lands in
+    let e = hop-still t.streets.upper t.streets.lower (turn_kind t.step.turn) (turn_age t.step.turn) t.step.count r o.leads.at o.next (rw blank refl) o.leads.lands in
     let h : FitsAt N t.streets.upper t.streets.lower (suc p) t.step.count = rw ep (lowest-fits t.streets.upper t.streets.lower t.step.count f.sum) in
     record {
       low = omega (arith, h.upper, t.streets.upper_few);
       lands = record {
-        lands = hop-rests t.streets.upper t.streets.lower t.step.kind t.step.age t.step.count r p blank h;
+        lands = hop-rests t.streets.upper t.streets.lower (turn_kind t.step.turn) (turn_age t.step.turn) t.step.count r p blank h;
         within = omega (arith, e, o.within);
         kept = ap (marked s g) e ∙ o.kept;
       };
-      first = λ q l x d m. omega (arith, ep, l, lowest-least (hop-rested t.streets.upper t.streets.lower t.step.kind t.step.age t.step.count r q x blank d));
+      first = λ q l x d m. omega (arith, ep, l, lowest-least (hop-rested t.streets.upper t.streets.lower (turn_kind t.step.turn) (turn_age t.step.turn) t.step.count r q x blank d));
     }

@@ -8,11 +8,12 @@ use Rattle.std.specs.Prelude.{IsTrue}
 use lib.ListN.{length, get_or, take, drop}
 use lib.Seq.{take-suc, drop-cons}
 use Rattle.rules.specs.Basic.{and_then}
-use Rattle.rules.specs.declared.Kind.TheVariants.{B, M, E, N}
+use Rattle.rules.specs.declared.Kind.TheVariants.{B}
 use Rattle.rules.specs.declared.Streets.{Streets}
 use Rattle.rules.specs.Judgement.{left}
+use Rattle.steps.specs.declared.plan.Turn.TheVariants.{Begins, Meets, Ends, Rests}
 use Rattle.steps.specs.declared.plan.Step.{Step}
-use Rattle.steps.specs.Plan.{step, touches, Steps, nil, full, begins, meets, ends, rests}
+use Rattle.steps.specs.Plan.{step, turn_kind, turn_age, touches, Steps, nil, full, begins, meets, ends, rests}
 use Rattle.steps.specs.Ranks.{hop_of, hops, open_after, RankOf, Way, Ahead}
 use Rattle.steps.specs.Sets.{ranks}
 use Rattle.orders.specs.Passes.{Passable}
@@ -131,7 +132,7 @@ module _ (ku kl : ℕ) where
 -- a rank of the nets that a step finds open, of which it touches one
 pub record Ready (s : Step) (r : ℕ) : Type 0 where
   pub few : s.count ≤ 6
-  pub touched : IsTrue (touches s.kind) → s.age < s.count
+  pub touched : IsTrue (touches (turn_kind s.turn)) → turn_age s.turn < s.count
   pub rank : RankOf s.count r
 
 -- steps with c nets open before them, and a rank of those
@@ -156,7 +157,7 @@ steps-ready (ends h f u) l = record { few = f; touched = λ e. h; rank = l }
 steps-ready (rests f u) l = record { few = f; touched = λ e. absurd (of-true e); rank = l }
 
 -- the first step, which finds no net open, touches none
-pub first-begins : {c : ℕ} {s : Step} {ss : List Step} → Steps c (s ∷ ss) → c ≡ 0 → IsTrue (touches s.kind) → ⊥
+pub first-begins : {c : ℕ} {s : Step} {ss : List Step} → Steps c (s ∷ ss) → c ≡ 0 → IsTrue (touches (turn_kind s.turn)) → ⊥
 first-begins full z e = of-true e
 first-begins (begins h u) z e = of-true e
 first-begins (meets h f u) z e = omega arith
@@ -164,25 +165,25 @@ first-begins (ends h f u) z e = omega arith
 first-begins (rests f u) z e = of-true e
 
 module _ (st : Streets) where
-  rank-on : (r x p : ℕ) (s : Step) → Ready s r → hop_of st.upper st.lower s r p ≡ some x → RankOf (left s.kind s.count) x
+  rank-on : (r x p : ℕ) (s : Step) → Ready s r → hop_of st.upper st.lower s r p ≡ some x → RankOf (left (turn_kind s.turn) s.count) x
   rank-on r x p s d h =
       leads-rank (record { step = s; streets = st }) (record { few = d.few; touched = d.touched }) r x d.rank (record { at = p; lands = h })
 
   -- past one step
   past : {b : ℕ} {s : Step} {ss : List Step} (r x p : ℕ) → Steps b (s ∷ ss) → RankOf b r → hop_of st.upper st.lower s r p ≡ some x →
-      Comes (left s.kind b) ss x
+      Comes (left (turn_kind s.turn) b) ss x
   unfolding left
-  past r x p (full {a} {ss}) l h =
-      let m : 7 ≤ st.upper + st.lower = (hop-made st.upper st.lower B a 6 r p x h).left-open in
+  past r x p (full {ss}) l h =
+      let m : 7 ≤ st.upper + st.lower = (hop-made st.upper st.lower B 0 6 r p x h).left-open in
       absurd (omega (arith, st.upper_few, st.lower_few))
-  past r x p (begins {a} {b} q u) l h =
-      record { plan = u; rank = rank-on r x p (step B a b) (steps-ready (begins {a = a} q u) l) h }
+  past r x p (begins {b} q u) l h =
+      record { plan = u; rank = rank-on r x p (step Begins b) (steps-ready (begins q u) l) h }
   past r x p (meets {a} {b} q f u) l h =
-      record { plan = u; rank = rank-on r x p (step M a b) (steps-ready (meets {a = a} q f u) l) h }
+      record { plan = u; rank = rank-on r x p (step (Meets a) b) (steps-ready (meets {a = a} q f u) l) h }
   past r x p (ends {a} {b} q f u) l h =
-      record { plan = u; rank = rank-on r x p (step E a b) (steps-ready (ends {a = a} q f u) l) h }
-  past r x p (rests {a} {b} f u) l h =
-      record { plan = u; rank = rank-on r x p (step N a b) (steps-ready (rests {a = a} f u) l) h }
+      record { plan = u; rank = rank-on r x p (step (Ends a) b) (steps-ready (ends {a = a} q f u) l) h }
+  past r x p (rests {b} f u) l h =
+      record { plan = u; rank = rank-on r x p (step Rests b) (steps-ready (rests f u) l) h }
 
   -- a run through the first steps comes to the others with a rank of the nets that are then open
   pub steps-rest : (i b : ℕ) (ss : List Step) (r x : ℕ) (ps : List ℕ) → Steps b ss → RankOf b r →
@@ -197,7 +198,7 @@ module _ (st : Streets) where
   steps-rest (suc i) b (s ∷ ss) r x ps t l e =
       let (p, qs, y, w, h, j) = hops-first st.upper st.lower s (take i ss) r x ps e in
       let n = past r y p t l h in
-      steps-rest i (left s.kind b) ss y x qs n.plan n.rank j
+      steps-rest i (left (turn_kind s.turn) b) ss y x qs n.plan n.rank j
 
   -- a way's rank is one of the nets that are then open
   pub way-comes : (i : ℕ) (ss : List Step) (x : ℕ) → Steps 0 ss → Way st.upper st.lower (take i ss) x →

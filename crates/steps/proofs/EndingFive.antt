@@ -6,16 +6,17 @@ use Prim.Native.Nat.{ℕ, zero, suc, ◌+◌, ◌-◌, ◌*◌, ◌/◌, ◌%◌
 use native.Mathlib.Nat.{mod-lt, one-mul}
 use native.Mathlib.Omega.{arith}
 use lib.Bits.{bit_and, bit_or, or_lt}
-use lib.Dec.{leb, ltb}
+use lib.Dec.{eqb, leb, ltb}
 use lib.Pow.{shl_exact, shl_lt, shr_lt, pow_pos, pow_mono}
 use borrow.Author.Tests.{leb-true, leb-false, ltb-true, ltb-false, le-leb, lt-leb}
+use Rattle.rules.specs.Basic.{pick}
 use Rattle.steps.specs.declared.end.Five.{Five}
 use Rattle.steps.specs.Ranks.{fact, under, spared, at_of, less_of}
 use Rattle.steps.specs.Sets.{bit}
 use Rattle.steps.specs.Four.{place_of, left_of, Left, Pulls, Leaves, Gone, comes, nth, within, over_at, under_at, Passing, Piece, Inside}
 use Rattle.steps.proofs.Bits.{not-both}
 use Rattle.steps.proofs.Ranks.{at-youngest, less-youngest, at-older, less-older, under-above, under-below, spared-above, spared-below}
-use Rattle.steps.proofs.Words.{bit-and, bit-or, bit-set, bit-unset, bit-zero, bit-shl, bit-shl-low, bit-shr, bit-mod, bit_high, bit-upper, bit-lower}
+use Rattle.steps.proofs.Words.{bit-and, bit-or, bit-zero, bit-shl, bit-shl-low, bit-shr, bit-mod, bit_high, bit-upper, bit-lower}
 use Rattle.steps.proofs.FourSets.{either, or-first, or-second, and_both, and-true, and_none, left_lt, place-lt}
 
 -- one of three tests passes
@@ -64,12 +65,23 @@ outer-none f r n = go (within f r) refl
     go false e = refl
 
 -- a word that is taken where k is in l
-module _ (l k w : ℕ) where
-  pub taken_in : l / 2 ^ k % 2 ≡ 1 → (i : ℕ) → bit w i ≡ bit l k && bit w i
-  taken_in h i = rw (bit-set l k h)
+module _ (l k w x : ℕ) where
+  picked : (t : Bool) → x ≡ pick t w 0 → (i : ℕ) → bit x i ≡ t && bit w i
+  unfolding pick
+  picked true e i = ap (λ (n : ℕ). bit n i) e
+  picked false e i = ap (λ (n : ℕ). bit n i) e ∙ bit-zero i
 
-  pub taken_out : (l / 2 ^ k % 2 ≡ 1 → ⊥) → (i : ℕ) → bit 0 i ≡ bit l k && bit w i
-  taken_out h i = bit-zero i ∙ sym (ap (λ (t : Bool). t && bit w i) (bit-unset l k h))
+  picked-le : (t : Bool) → x ≡ pick t w 0 → x ≤ w
+  unfolding pick
+  picked-le true e = omega arith
+  picked-le false e = omega arith
+
+  pub taken-bits : x ≡ pick (eqb (l / 2 ^ k % 2) 1) w 0 → (i : ℕ) → bit x i ≡ bit l k && bit w i
+  unfolding bit
+  taken-bits e i = picked (eqb (l / 2 ^ k % 2) 1) e i
+
+  pub taken-le : x ≡ pick (eqb (l / 2 ^ k % 2) 1) w 0 → x ≤ w
+  taken-le e = picked-le (eqb (l / 2 ^ k % 2) 1) e
 
 -- the youngest of five, and another
 pub at_first : (r : ℕ) → at_of 0 5 r ≡ r / 24

@@ -11,6 +11,7 @@ use lib.Dec.{eqb, leb, ltb}
 use lib.Pow.{pow_pos}
 use borrow.Author.Tests.{eqb-true, eqb-false, ltb-true, ltb-false, leb-true, leb-false}
 use Rattle.rules.specs.declared.Kind.TheVariants.{E}
+use Rattle.steps.specs.Plan.{turn_kind, turn_age}
 use Rattle.steps.specs.declared.plan.Stop.{Stop}
 use Rattle.steps.specs.declared.end.Five.{Five}
 use Rattle.steps.specs.Ranks.{fact}
@@ -100,17 +101,17 @@ legal-inside ku kl l hu hl f =
     record { top = a; below = omega (arith, f.below, eqb-false (l / 16 % 2) 1 b) }
 
 -- five nets are open
-module _ (t : Stop) (l : ℕ) (sound : Sound t) (ends : t.step.kind ≡ E) (legal : Legal t.streets.upper t.streets.lower 5 l) (five : t.step.count ≡ 5) (s : List ℕ)
+module _ (t : Stop) (l : ℕ) (sound : Sound t) (ends : turn_kind t.step.turn ≡ E) (legal : Legal t.streets.upper t.streets.lower 5 l) (five : t.step.count ≡ 5) (s : List ℕ)
     (g : ℕ) where
   legal-here : Legal t.streets.upper t.streets.lower t.step.count l
   legal-here = rw five legal
 
   pub five-exactly : (f : Five) (n : ℕ) (u : List ℕ) → ((j : ℕ) → 1 ≤ j → j < 4 → nth f j ≡ word_before s g (0 + j)) → Sources t s g → Empty s g →
-      Gone 5 t.step.age l (within f) n → Written s g 0 n u → Exactly s g (Reached t s g) u
+      Gone 5 (turn_age t.step.turn) l (within f) n → Written s g 0 n u → Exactly s g (Reached t s g) u
   unfolding fact
   five-exactly f n u h from z o w =
       gone-exactly t l sound ends legal-here (omega arith) s g n u z
-      (rw five (gone_same 5 t.step.age l (within f) (source s g) n (λ r m. sym (same r m)) o)) w
+      (rw five (gone_same 5 (turn_age t.step.turn) l (within f) (source s g) n (λ r m. sym (same r m)) o)) w
     where
       none-there : (r : ℕ) → r < 120 → (24 ≤ r → r < 96 → ⊥) → source s g r ≡ false
       none-there r m n = go (source s g r) refl
@@ -139,7 +140,7 @@ module _ (t : Stop) (l : ℕ) (sound : Sound t) (ends : t.step.kind ≡ E) (lega
               none-there r m n ∙ sym (outer-none f r n)
 
   pub five-loses : (f : Five) (n : ℕ) (u : List ℕ) → n ≡ word_at s (suc g) 0 →
-      ((r : ℕ) → 24 ≤ r → r < 96 → within f r ≡ comes 5 t.step.age l n r) → Sources t s (suc g) →
+      ((r : ℕ) → 24 ≤ r → r < 96 → within f r ≡ comes 5 (turn_age t.step.turn) l n r) → Sources t s (suc g) →
       Anded s g (λ j. nth f (j - 0)) (between (0 + 1) (0 + 4)) u → Loses s g (Onward t s (suc g)) u
   unfolding fact source
   five-loses f n u q h from c =

@@ -13,8 +13,8 @@ use Rattle.rules.specs.declared.Kind.{Kind}
 use Rattle.rules.specs.declared.Kind.TheVariants.{E}
 use Rattle.rules.specs.Street.{fits}
 use Rattle.steps.specs.declared.plan.Stop.{Stop}
-use Rattle.steps.specs.Plan.{step}
-use Rattle.steps.specs.Ranks.{fact, at_of, less_of, hop_of}
+use Rattle.steps.specs.Plan.{turn_kind, turn_age}
+use Rattle.steps.specs.Ranks.{fact, at_of, less_of, hop_by}
 use Rattle.steps.specs.Sets.{ranks, held, slot, word_at, bit, marked, source, Written, Empty, Bare, Exactly, Loses}
 use Rattle.steps.specs.Stops.{Sound}
 use Rattle.steps.specs.Masks.{Sources}
@@ -91,7 +91,7 @@ module _ (s : List ℕ) (g k n : ℕ) (u : List ℕ) (hk : k < 5) (w : Written s
 
 -- what a hop over an ending says
 module _ (ku kl : ℕ) (k : Kind) (a b r p x : ℕ) (ek : k ≡ E) where
-  pub ends-made : hop_of ku kl (step k a b) r p ≡ some x →
+  pub ends-made : hop_by ku kl k a b r p ≡ some x →
       (p ≡ at_of a b r) × (fits ku kl (suc (at_of a b r)) b ≡ true) × (less_of a b r ≡ x)
   ends-made e = go (eqb p (at_of a b r)) (fits ku kl (suc p) b) refl refl
     where
@@ -104,12 +104,12 @@ module _ (ku kl : ℕ) (k : Kind) (a b r p x : ℕ) (ek : k ≡ E) where
           (m, rw m at f, same_some (hop-ends ku kl k a b r p ek m f) e)
 
 -- a stop at which a net ends, and where it may stand
-module _ (t : Stop) (l : ℕ) (sound : Sound t) (ends : t.step.kind ≡ E) (legal : Legal t.streets.upper t.streets.lower t.step.count l) where
+module _ (t : Stop) (l : ℕ) (sound : Sound t) (ends : turn_kind t.step.turn ≡ E) (legal : Legal t.streets.upper t.streets.lower t.step.count l) where
   abbrev b : ℕ
   b = t.step.count
 
   abbrev a : ℕ
-  a = t.step.age
+  a = (turn_age t.step.turn)
 
   among : a < b
   among = touched-at t sound E ends refl
@@ -121,24 +121,24 @@ module _ (t : Stop) (l : ℕ) (sound : Sound t) (ends : t.step.kind ≡ E) (lega
   end-leads r x h o e =
       record {
         at = at_of a b r;
-        lands = hop-ends t.streets.upper t.streets.lower t.step.kind a b r (at_of a b r) ends refl (sym (stands r h) ∙ o) ∙ ap some e;
+        lands = hop-ends t.streets.upper t.streets.lower (turn_kind t.step.turn) a b r (at_of a b r) ends refl (sym (stands r h) ∙ o) ∙ ap some e;
       }
 
   pub leads-end : (r x : ℕ) → r < fact b → Leads t r x → (bit l (at_of a b r) ≡ true) × (less_of a b r ≡ x)
   leads-end r x h m =
-      let (p, f, e) = ends-made t.streets.upper t.streets.lower t.step.kind a b r m.at x ends m.lands in
+      let (p, f, e) = ends-made t.streets.upper t.streets.lower (turn_kind t.step.turn) a b r m.at x ends m.lands in
       (stands r h ∙ f, e)
 
   left_lt : (r : ℕ) → r < fact b → less_of a b r < fact (b - 1)
   left_lt r h = less-lt a b r among h
 
 -- at most five nets are open: what is left is in slot 0
-module _ (t : Stop) (l : ℕ) (sound : Sound t) (ends : t.step.kind ≡ E) (legal : Legal t.streets.upper t.streets.lower t.step.count l) (few : t.step.count ≤ 5) where
-  below : (r : ℕ) → r < fact t.step.count → less_of t.step.age t.step.count r < 24
+module _ (t : Stop) (l : ℕ) (sound : Sound t) (ends : turn_kind t.step.turn ≡ E) (legal : Legal t.streets.upper t.streets.lower t.step.count l) (few : t.step.count ≤ 5) where
+  below : (r : ℕ) → r < fact t.step.count → less_of (turn_age t.step.turn) t.step.count r < 24
   unfolding fact
   below r h = omega (arith, left_lt t l sound ends legal r h, fact-most (t.step.count - 1) 4 (omega arith))
 
-  pub gone-exactly : (s : List ℕ) (g n : ℕ) (u : List ℕ) → Empty s g → Gone t.step.count t.step.age l (source s g) n → Written s g 0 n u →
+  pub gone-exactly : (s : List ℕ) (g n : ℕ) (u : List ℕ) → Empty s g → Gone t.step.count (turn_age t.step.turn) l (source s g) n → Written s g 0 n u →
       Exactly s g (Reached t s g) u
   gone-exactly s g n u z o w =
       record {
@@ -221,27 +221,27 @@ module _ (s : List ℕ) (g : ℕ) (m : ℕ → ℕ) (K : ℕ → Bool) (u : List
       own x d e = anded-own x e (here x d e)
 
 -- at most five nets are open: a rank leads on exactly where it leaves one of the next gap's slot 0
-module _ (t : Stop) (l : ℕ) (sound : Sound t) (ends : t.step.kind ≡ E) (legal : Legal t.streets.upper t.streets.lower t.step.count l) (few : t.step.count ≤ 5)
+module _ (t : Stop) (l : ℕ) (sound : Sound t) (ends : turn_kind t.step.turn ≡ E) (legal : Legal t.streets.upper t.streets.lower t.step.count l) (few : t.step.count ≤ 5)
     (s : List ℕ) (g : ℕ) where
   abbrev passes : ℕ → Bool
-  passes x = comes t.step.count t.step.age l (word_at s (suc g) 0) x
+  passes x = comes t.step.count (turn_age t.step.turn) l (word_at s (suc g) 0) x
 
   comes-onward : (x : ℕ) → x < fact t.step.count → passes x ≡ true → Onward t s (suc g) x
   comes-onward x h e =
-      let (i, o) = and_both (bit l (at_of t.step.age t.step.count x)) (bit (word_at s (suc g) 0) (less_of t.step.age t.step.count x)) e in
-      let m : less_of t.step.age t.step.count x < 24 = below t l sound ends legal few x h in
+      let (i, o) = and_both (bit l (at_of (turn_age t.step.turn) t.step.count x)) (bit (word_at s (suc g) 0) (less_of (turn_age t.step.turn) t.step.count x)) e in
+      let m : less_of (turn_age t.step.turn) t.step.count x < 24 = below t l sound ends legal few x h in
       record {
-        next = less_of t.step.age t.step.count x;
+        next = less_of (turn_age t.step.turn) t.step.count x;
         within = omega arith;
-        leads = end-leads t l sound ends legal x (less_of t.step.age t.step.count x) h i refl;
-        kept = first_slot s (suc g) (less_of t.step.age t.step.count x) m ∙ o;
+        leads = end-leads t l sound ends legal x (less_of (turn_age t.step.turn) t.step.count x) h i refl;
+        kept = first_slot s (suc g) (less_of (turn_age t.step.turn) t.step.count x) m ∙ o;
       }
 
   onward-comes : (x : ℕ) → x < fact t.step.count → Onward t s (suc g) x → passes x ≡ true
   onward-comes x h o =
       let (i, e) = leads-end t l sound ends legal x o.next h o.leads in
       let m : o.next < 24 = rw e at (below t l sound ends legal few x h) in
-      and-true (bit l (at_of t.step.age t.step.count x)) (bit (word_at s (suc g) 0) (less_of t.step.age t.step.count x)) i
+      and-true (bit l (at_of (turn_age t.step.turn) t.step.count x)) (bit (word_at s (suc g) 0) (less_of (turn_age t.step.turn) t.step.count x)) i
       (rw e (sym (first_slot s (suc g) o.next m) ∙ o.kept))
 
   pub comes-loses : (m : ℕ → ℕ) (K : ℕ → Bool) (u : List ℕ) → ((x : ℕ) → x < ranks → marked s g x ≡ true → x < fact t.step.count) →
@@ -290,9 +290,9 @@ next_word s g k n e =
     rw d at e
 
 -- back over an ending of at most four
-pub few-loses : (t : Stop) (l : ℕ) → Sound t → t.step.kind ≡ E → Legal t.streets.upper t.streets.lower t.step.count l → t.step.count ≤ 4 → (s : List ℕ) (g : ℕ) →
+pub few-loses : (t : Stop) (l : ℕ) → Sound t → turn_kind t.step.turn ≡ E → Legal t.streets.upper t.streets.lower t.step.count l → t.step.count ≤ 4 → (s : List ℕ) (g : ℕ) →
     ((x : ℕ) → x < ranks → marked s g x ≡ true → x < fact t.step.count) → (n z : ℕ) → n ≡ word_at s (suc g) 0 →
-    ((r : ℕ) → r < fact t.step.count → bit z r ≡ comes t.step.count t.step.age l n r) → (u : List ℕ) →
+    ((r : ℕ) → r < fact t.step.count → bit z r ≡ comes t.step.count (turn_age t.step.turn) l n r) → (u : List ℕ) →
     Written s g 0 (bit_and (word_at s g 0) z) u → Loses s g (Onward t s (suc g)) u
 few-loses t l d ends legal few s g f n z q k u w =
     comes-loses t l d ends legal (omega arith) s g (λ j. z) (λ j. eqb j 0) u f

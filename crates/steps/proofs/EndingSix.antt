@@ -13,6 +13,7 @@ use Rattle.rules.specs.declared.Kind.TheVariants.{E}
 use Rattle.rules.specs.Basic.{pick}
 use Rattle.rules.specs.Street.{fits}
 use Rattle.rules.proofs.Fits.{Fits}
+use Rattle.steps.specs.Plan.{turn_kind, turn_age}
 use Rattle.steps.specs.declared.plan.Stop.{Stop}
 use Rattle.steps.specs.declared.end.Five.{Five}
 use Rattle.steps.specs.Ranks.{fact, under, spared, at_of, less_of}
@@ -110,45 +111,45 @@ pub third-inside : Inside 4
 third-inside = record { top = bit-power-other 2 0 (λ e. omega arith); below = omega arith }
 
 -- a stop with six nets open at which one ends
-module _ (t : Stop) (ok : Sound t) (ends : t.step.kind ≡ E) (six : t.step.count ≡ 6) where
-  six-leads : (r x : ℕ) → 6 ≤ t.streets.upper + t.streets.lower → 2 ≤ at_of t.step.age 6 r → at_of t.step.age 6 r ≤ 3 → less_of t.step.age 6 r ≡ x → Leads t r x
+module _ (t : Stop) (ok : Sound t) (ends : turn_kind t.step.turn ≡ E) (six : t.step.count ≡ 6) where
+  six-leads : (r x : ℕ) → 6 ≤ t.streets.upper + t.streets.lower → 2 ≤ at_of (turn_age t.step.turn) 6 r → at_of (turn_age t.step.turn) 6 r ≤ 3 → less_of (turn_age t.step.turn) 6 r ≡ x → Leads t r x
   six-leads r x h a b e =
-      let f : fits t.streets.upper t.streets.lower (suc (at_of t.step.age 6 r)) 6 ≡ true =
-      fits-middle t.streets.upper t.streets.lower t.streets.upper_few t.streets.lower_few (at_of t.step.age 6 r) h a b in
+      let f : fits t.streets.upper t.streets.lower (suc (at_of (turn_age t.step.turn) 6 r)) 6 ≡ true =
+      fits-middle t.streets.upper t.streets.lower t.streets.upper_few t.streets.lower_few (at_of (turn_age t.step.turn) 6 r) h a b in
       record {
-        at = at_of t.step.age t.step.count r;
-        lands = hop-ends t.streets.upper t.streets.lower t.step.kind t.step.age t.step.count r (at_of t.step.age t.step.count r) ends refl (rw six f) ∙
+        at = at_of (turn_age t.step.turn) t.step.count r;
+        lands = hop-ends t.streets.upper t.streets.lower (turn_kind t.step.turn) (turn_age t.step.turn) t.step.count r (at_of (turn_age t.step.turn) t.step.count r) ends refl (rw six f) ∙
             ap some (rw six e);
       }
 
   leads-six : (r x : ℕ) → Leads t r x →
-      (2 ≤ at_of t.step.age 6 r) × (at_of t.step.age 6 r ≤ 3) × (6 ≤ t.streets.upper + t.streets.lower) × (less_of t.step.age 6 r ≡ x)
+      (2 ≤ at_of (turn_age t.step.turn) 6 r) × (at_of (turn_age t.step.turn) 6 r ≤ 3) × (6 ≤ t.streets.upper + t.streets.lower) × (less_of (turn_age t.step.turn) 6 r ≡ x)
   leads-six r x m =
-      let (p, f, e) = ends-made t.streets.upper t.streets.lower t.step.kind t.step.age t.step.count r m.at x ends m.lands in
-      let (a, b, h) = middle-fits t.streets.upper t.streets.lower t.streets.upper_few t.streets.lower_few (at_of t.step.age 6 r) (rw six at f) in
+      let (p, f, e) = ends-made t.streets.upper t.streets.lower (turn_kind t.step.turn) (turn_age t.step.turn) t.step.count r m.at x ends m.lands in
+      let (a, b, h) = middle-fits t.streets.upper t.streets.lower t.streets.upper_few t.streets.lower_few (at_of (turn_age t.step.turn) 6 r) (rw six at f) in
       (a, b, h, rw six at e)
 
   -- the youngest ends
   module _ (q x : ℕ) (h₂ : 2 ≤ q) (h₄ : q < 4) (hx : x < 120) where
-    first-leads : t.step.age ≡ 0 → 6 ≤ t.streets.upper + t.streets.lower → Leads t (120 * q + x) x
+    first-leads : turn_age t.step.turn ≡ 0 → 6 ≤ t.streets.upper + t.streets.lower → Leads t (120 * q + x) x
     first-leads e h =
         let d = at_first q x hx in
         six-leads (120 * q + x) x h (rw e (omega arith)) (rw e (omega arith)) (rw e (less-first q x hx))
 
-    pub leads-first : t.step.age ≡ 0 → (y : ℕ) → Leads t (120 * q + x) y → x ≡ y
+    pub leads-first : turn_age t.step.turn ≡ 0 → (y : ℕ) → Leads t (120 * q + x) y → x ≡ y
     leads-first e y m =
         let (a, b, h, d) = leads-six (120 * q + x) y m in
         sym (less-first q x hx) ∙ rw e at d
 
     -- another ends
-    other-leads : (c : ℕ) → t.step.age ≡ suc c → 6 ≤ t.streets.upper + t.streets.lower → at_of c 5 x ≡ 2 → Leads t (120 * q + x) (48 + less_of c 5 x)
+    other-leads : (c : ℕ) → turn_age t.step.turn ≡ suc c → 6 ≤ t.streets.upper + t.streets.lower → at_of c 5 x ≡ 2 → Leads t (120 * q + x) (48 + less_of c 5 x)
     other-leads c e h p =
         let u : at_of (suc c) 6 (120 * q + x) ≡ under q 2 = at_other q x hx c ∙ ap (under q) p in
         let s : spared q (at_of c 5 x) ≡ 2 = ap (spared q) p ∙ third-spared q h₂ h₄ in
         let v = third-under q h₂ h₄ in
         six-leads (120 * q + x) (48 + less_of c 5 x) h (rw e (omega arith)) (rw e (omega arith)) (rw e (less_other q x hx c ∙ omega arith))
 
-    pub leads-other : (c : ℕ) → t.step.age ≡ suc c → (y : ℕ) → Leads t (120 * q + x) y → (at_of c 5 x ≡ 2) × (48 + less_of c 5 x ≡ y)
+    pub leads-other : (c : ℕ) → turn_age t.step.turn ≡ suc c → (y : ℕ) → Leads t (120 * q + x) y → (at_of c 5 x ≡ 2) × (48 + less_of c 5 x ≡ y)
     leads-other c e y m =
         let (a, b, h, d) = leads-six (120 * q + x) y m in
         let u = at_other q x hx c in
@@ -239,7 +240,7 @@ unfolding fact
 less-four c x h l = less-lt c 5 x h l
 
 -- forward: no place is legal, the youngest ends, another ends
-module _ (t : Stop) (ok : Sound t) (ends : t.step.kind ≡ E) (six : t.step.count ≡ 6) (s : List ℕ) (g : ℕ) where
+module _ (t : Stop) (ok : Sound t) (ends : turn_kind t.step.turn ≡ E) (six : t.step.count ≡ 6) (s : List ℕ) (g : ℕ) where
   pub none_left : (f : Five) → t.streets.upper + t.streets.lower < 6 → Third f 0 → SixLeft t s g f
   none_left f h a =
       record {
@@ -253,7 +254,7 @@ module _ (t : Stop) (ok : Sound t) (ends : t.step.kind ≡ E) (six : t.step.coun
     unfolding fact
     reached q x y a b h e m = record { rank = 120 * q + x; below = rw six (omega arith); from = e; leads = m }
 
-    pub first-left : t.step.age ≡ 0 → SixLeft t s g f
+    pub first-left : turn_age t.step.turn ≡ 0 → SixLeft t s g f
     first-left z = record { sound = sound; full = full }
       where
         sound : (x : ℕ) → x < 120 → within f x ≡ true → Reached t s g x
@@ -271,7 +272,7 @@ module _ (t : Stop) (ok : Sound t) (ends : t.step.kind ≡ E) (six : t.step.coun
             let e : r % 120 ≡ x = leads-first t ok ends six (r / 120) (r % 120) a b h z x m in
             (rw e at h, rw e at (source-within s g f words (r / 120) (r % 120) a b lo hi d))
 
-    pub other-left : (c n : ℕ) (k : Five) → t.step.age ≡ suc c → Gone 5 c 4 (within f) n → Third k n → SixLeft t s g k
+    pub other-left : (c n : ℕ) (k : Five) → turn_age t.step.turn ≡ suc c → Gone 5 c 4 (within f) n → Third k n → SixLeft t s g k
     unfolding fact
     other-left c n k z o alone = record { sound = sound; full = full }
       where
@@ -301,7 +302,7 @@ module _ (t : Stop) (ok : Sound t) (ends : t.step.kind ≡ E) (six : t.step.coun
             (omega arith, rw e at (third-full k n alone (less_of c 5 (r % 120)) l y))
 
 -- back: the same three
-module _ (t : Stop) (ok : Sound t) (ends : t.step.kind ≡ E) (six : t.step.count ≡ 6) (s : List ℕ) (g : ℕ) where
+module _ (t : Stop) (ok : Sound t) (ends : turn_kind t.step.turn ≡ E) (six : t.step.count ≡ 6) (s : List ℕ) (g : ℕ) where
   pub none-back : (f : Five) → t.streets.upper + t.streets.lower < 6 → Third f 0 → SixBack t s g f
   none-back f h a =
       record {
@@ -317,7 +318,7 @@ module _ (t : Stop) (ok : Sound t) (ends : t.step.kind ≡ E) (six : t.step.coun
       marked-bit s (suc g) x (held-few x l) ∙ ap₂ (λ (j i : ℕ). bit (word_at s (suc g) j) i) v d
 
   module _ (room : 6 ≤ t.streets.upper + t.streets.lower) (f : Five) where
-    pub first_back : t.step.age ≡ 0 → ((j : ℕ) → 1 ≤ j → j < 4 → nth f j ≡ word_at s (suc g) j) → SixBack t s g f
+    pub first_back : turn_age t.step.turn ≡ 0 → ((j : ℕ) → 1 ≤ j → j < 4 → nth f j ≡ word_at s (suc g) j) → SixBack t s g f
     first_back z words = record { sound = sound; full = full }
       where
         same : (x : ℕ) → 24 ≤ x → x < 96 → within f x ≡ marked s (suc g) x
@@ -334,7 +335,7 @@ module _ (t : Stop) (ok : Sound t) (ends : t.step.kind ≡ E) (six : t.step.coun
             let e : x ≡ o.next = leads-first t ok ends six q x a b (omega arith) z o.next o.leads in
             same x l h ∙ rw e o.kept
 
-    pub other-back : (c n : ℕ) → t.step.age ≡ suc c → n ≡ word_at s (suc g) 2 → ((x : ℕ) → 24 ≤ x → x < 96 → within f x ≡ comes 5 c 4 n x) →
+    pub other-back : (c n : ℕ) → turn_age t.step.turn ≡ suc c → n ≡ word_at s (suc g) 2 → ((x : ℕ) → 24 ≤ x → x < 96 → within f x ≡ comes 5 c 4 n x) →
         SixBack t s g f
     other-back c n z w same = record { sound = sound; full = full }
       where

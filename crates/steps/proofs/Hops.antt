@@ -13,8 +13,8 @@ use Rattle.rules.specs.declared.Kind.TheVariants.{B, M, E, N}
 use Rattle.rules.specs.Street.{fits, last, fits_at}
 use Rattle.rules.specs.Judgement.{left}
 use Rattle.rules.proofs.Fits.{Fits, fits→, →fits, FitsAt, fits_at→, →fits_at}
-use Rattle.steps.specs.Plan.{step, touches, stays}
-use Rattle.steps.specs.Ranks.{capacity, fact, at_of, less_of, hop_of}
+use Rattle.steps.specs.Plan.{turn_kind, turn_age, touches, stays}
+use Rattle.steps.specs.Ranks.{capacity, fact, at_of, less_of, hop_by}
 use Rattle.steps.specs.Sets.{ranks, held}
 use Rattle.steps.specs.Stops.{hop_at, Sound}
 use Rattle.steps.specs.declared.plan.Stop.{Stop}
@@ -44,26 +44,26 @@ module _ (ku kl p b : ℕ) where
 
 module _ (ku kl : ℕ) (k : Kind) (a b r p : ℕ) where
   abbrev here : Option ℕ
-  here = hop_of ku kl (step k a b) r p
+  here = hop_by ku kl k a b r p
 
   pub hop-begins : k ≡ B → fits ku kl (suc p) (suc b) ≡ true → here ≡ some (p * fact b + r)
-  unfolding hop_of keep
+  unfolding hop_by keep
   hop-begins e f = rw (e, f)
 
   pub hop-unbegun : k ≡ B → fits ku kl (suc p) (suc b) ≡ false → here ≡ none
-  unfolding hop_of keep
+  unfolding hop_by keep
   hop-unbegun e f = rw (e, f)
 
   pub hop-meets : k ≡ M → p ≡ at_of a b r → fits ku kl (suc p) b ≡ true → here ≡ some r
-  unfolding hop_of keep
+  unfolding hop_by keep
   hop-meets e q f = rw (e, eq-eqb p (at_of a b r) q, f)
 
   pub hop-ends : k ≡ E → p ≡ at_of a b r → fits ku kl (suc p) b ≡ true → here ≡ some (less_of a b r)
-  unfolding hop_of keep
+  unfolding hop_by keep
   hop-ends e q f = rw (e, eq-eqb p (at_of a b r) q, f)
 
-pub hop-elsewhere : (ku kl : ℕ) (k : Kind) (a b r p : ℕ) → IsTrue (touches k) → (p ≡ at_of a b r → ⊥) → hop_of ku kl (step k a b) r p ≡ none
-unfolding hop_of keep
+pub hop-elsewhere : (ku kl : ℕ) (k : Kind) (a b r p : ℕ) → IsTrue (touches k) → (p ≡ at_of a b r → ⊥) → hop_by ku kl k a b r p ≡ none
+unfolding hop_by keep
 hop-elsewhere ku kl B a b r p h n = absurd (of-true h)
 hop-elsewhere ku kl M a b r p h n = rw (ne_eqb p (at_of a b r) n)
 hop-elsewhere ku kl E a b r p h n = rw (ne_eqb p (at_of a b r) n)
@@ -74,8 +74,8 @@ unfolding keep
 no-keep true f x e = rw e
 no-keep false f x e = refl
 
-pub hop-unmet : (ku kl : ℕ) (k : Kind) (a b r p : ℕ) → IsTrue (touches k) → fits ku kl (suc p) b ≡ false → hop_of ku kl (step k a b) r p ≡ none
-unfolding hop_of
+pub hop-unmet : (ku kl : ℕ) (k : Kind) (a b r p : ℕ) → IsTrue (touches k) → fits ku kl (suc p) b ≡ false → hop_by ku kl k a b r p ≡ none
+unfolding hop_by
 hop-unmet ku kl B a b r p h n = absurd (of-true h)
 hop-unmet ku kl M a b r p h n = no-keep (eqb p (at_of a b r)) (fits ku kl (suc p) b) r n
 hop-unmet ku kl E a b r p h n = no-keep (eqb p (at_of a b r)) (fits ku kl (suc p) b) (less_of a b r) n
@@ -97,27 +97,27 @@ both true t e = (refl, e)
 both false t e = let z : ◌≡◌ {A = ℕ} 0 1 = cc in absurd (omega arith)
 
 -- a blank is passed where the limits allow as many wires above it, and leaves the order as it is
-pub hop-rests : (ku kl : ℕ) (k : Kind) (a b r p : ℕ) → k ≡ N → FitsAt N ku kl (suc p) b → hop_of ku kl (step k a b) r p ≡ some r
-unfolding hop_of keep
+pub hop-rests : (ku kl : ℕ) (k : Kind) (a b r p : ℕ) → k ≡ N → FitsAt N ku kl (suc p) b → hop_by ku kl k a b r p ≡ some r
+unfolding hop_by keep
 hop-rests ku kl k a b r p h f = rw (h, to-true (fits_at N ku kl (suc p) b) (→fits_at ku kl (suc p) b N f))
 
-pub hop-rested : (ku kl : ℕ) (k : Kind) (a b r p x : ℕ) → k ≡ N → hop_of ku kl (step k a b) r p ≡ some x → FitsAt N ku kl (suc p) b
-unfolding hop_of
+pub hop-rested : (ku kl : ℕ) (k : Kind) (a b r p x : ℕ) → k ≡ N → hop_by ku kl k a b r p ≡ some x → FitsAt N ku kl (suc p) b
+unfolding hop_by
 hop-rested ku kl k a b r p x h e = go (rw h at e)
   where
-    go : hop_of ku kl (step N a b) r p ≡ some x → FitsAt N ku kl (suc p) b
+    go : hop_by ku kl N a b r p ≡ some x → FitsAt N ku kl (suc p) b
     go f = fits_at→ ku kl (suc p) b N (of-true (kept (fits_at N ku kl (suc p) b) r x f).0)
 
 -- where no net begins or ends, the order stays as it is
-pub hop-still : (ku kl : ℕ) (k : Kind) (a b r p x : ℕ) → IsTrue (stays k) → hop_of ku kl (step k a b) r p ≡ some x → r ≡ x
-unfolding hop_of
+pub hop-still : (ku kl : ℕ) (k : Kind) (a b r p x : ℕ) → IsTrue (stays k) → hop_by ku kl k a b r p ≡ some x → r ≡ x
+unfolding hop_by
 hop-still ku kl B a b r p x h e = absurd (of-true h)
 hop-still ku kl M a b r p x h e = (kept (eqb p (at_of a b r) && fits ku kl (suc p) b) r x e).1
 hop-still ku kl E a b r p x h e = absurd (of-true h)
 hop-still ku kl N a b r p x h e = (kept (fits_at N ku kl (suc p) b) r x e).1
 
-pub hop-made : (ku kl : ℕ) (k : Kind) (a b r p x : ℕ) → hop_of ku kl (step k a b) r p ≡ some x → Made ku kl k a b r p x
-unfolding hop_of left last
+pub hop-made : (ku kl : ℕ) (k : Kind) (a b r p x : ℕ) → hop_by ku kl k a b r p ≡ some x → Made ku kl k a b r p x
+unfolding hop_by left last
 hop-made ku kl B a b r p x e =
     let (t, q) = kept (fits ku kl (suc p) (suc b)) (p * fact b + r) x e in
     let f : Fits ku kl (suc p) (suc b) = fits-fits ku kl (suc p) (suc b) t in
@@ -157,11 +157,11 @@ ended_held : (a b r : ℕ) → b ≤ capacity → a < b → r < fact b → held 
 ended_held a b r f h l = held-few (less_of a b r) (omega (arith, less-lt a b r h l, fact-five (b - 1) (omega arith)))
 
 -- a touched net that is passed keeps the limits where it stands
-pub hop-met : (ku kl : ℕ) (k : Kind) (a b r p x : ℕ) → k ≡ M → hop_of ku kl (step k a b) r p ≡ some x → (r ≡ x) × (fits ku kl (suc (at_of a b r)) b ≡ true)
-unfolding hop_of
+pub hop-met : (ku kl : ℕ) (k : Kind) (a b r p x : ℕ) → k ≡ M → hop_by ku kl k a b r p ≡ some x → (r ≡ x) × (fits ku kl (suc (at_of a b r)) b ≡ true)
+unfolding hop_by
 hop-met ku kl k a b r p x ek e = go (hop-one (rw ek at e))
   where
-    hop-one : hop_of ku kl (step M a b) r p ≡ some x → (eqb p (at_of a b r) && fits ku kl (suc p) b ≡ true) × (r ≡ x)
+    hop-one : hop_by ku kl M a b r p ≡ some x → (eqb p (at_of a b r) && fits ku kl (suc p) b ≡ true) × (r ≡ x)
     hop-one f = kept (eqb p (at_of a b r) && fits ku kl (suc p) b) r x f
 
     go : (eqb p (at_of a b r) && fits ku kl (suc p) b ≡ true) × (r ≡ x) → (r ≡ x) × (fits ku kl (suc (at_of a b r)) b ≡ true)
@@ -171,21 +171,21 @@ hop-met ku kl k a b r p x ek e = go (hop-one (rw ek at e))
         (q, rw m at f)
 
 -- a net that a sound stop touches is open before it
-pub touched-at : (t : Stop) → Sound t → (k : Kind) → t.step.kind ≡ k → IsTrue (touches k) → t.step.age < t.step.count
+pub touched-at : (t : Stop) → Sound t → (k : Kind) → turn_kind t.step.turn ≡ k → IsTrue (touches k) → turn_age t.step.turn < t.step.count
 touched-at t h k e i = h.touched (rw e i)
 
 -- at a sound stop a hop has one of six positions, and lands on a rank of the gap
 pub stop-lands : (t : Stop) (r p x : ℕ) → Sound t → r < fact t.step.count → hop_at t r p ≡ some x → (p < capacity) × (x < ranks)
 stop-lands t r p x h l e =
-    let m = hop-made t.streets.upper t.streets.lower t.step.kind t.step.age t.step.count r p x e in
+    let m = hop-made t.streets.upper t.streets.lower (turn_kind t.step.turn) (turn_age t.step.turn) t.step.count r p x e in
     let hu = t.streets.upper_few in
     let hl = t.streets.lower_few in
-    (omega (arith, m.room), omega (arith, m.lands h.touched l, fact-six (left t.step.kind t.step.count) (omega (arith, m.left-open))))
+    (omega (arith, m.room), omega (arith, m.lands h.touched l, fact-six (left (turn_kind t.step.turn) t.step.count) (omega (arith, m.left-open))))
 
 -- and on a rank that a set can hold, from one that it can
 pub hop-held : (ku kl : ℕ) (k : Kind) (a b r p x : ℕ) → ku ≤ 3 → kl ≤ 3 → b ≤ capacity → (IsTrue (touches k) → a < b) → r < fact b → held r ≡ true →
-    hop_of ku kl (step k a b) r p ≡ some x → held x ≡ true
-unfolding hop_of
+    hop_by ku kl k a b r p ≡ some x → held x ≡ true
+unfolding hop_by
 hop-held ku kl B a b r p x hu hl f h l d e =
     let (t, q) = kept (fits ku kl (suc p) (suc b)) (p * fact b + r) x e in
     rw (← q) (begun-held ku kl b r p hu hl l (fits-fits ku kl (suc p) (suc b) t))
@@ -197,7 +197,7 @@ hop-held ku kl N a b r p x hu hl f h l d e =
     rw (← hop-still ku kl N a b r p x refl e) d
 
 pub stop-held : (t : Stop) (r p x : ℕ) → Sound t → r < fact t.step.count → held r ≡ true → hop_at t r p ≡ some x → held x ≡ true
-stop-held t r p x h = hop-held t.streets.upper t.streets.lower t.step.kind t.step.age t.step.count r p x t.streets.upper_few t.streets.lower_few h.few h.touched
+stop-held t r p x h = hop-held t.streets.upper t.streets.lower (turn_kind t.step.turn) (turn_age t.step.turn) t.step.count r p x t.streets.upper_few t.streets.lower_few h.few h.touched
 
 pub none-some : {A : Type 0} {o : Option ℕ} {x : ℕ} → o ≡ none → o ≡ some x → A
 none-some e f = let z : ◌≡◌ {A = ℕ} 0 1 = cc in absurd (omega arith)

@@ -2,6 +2,7 @@ pub mod Ranks
 pub mod Slots
 pub mod Words
 pub mod Hops
+pub mod Turns
 pub mod Bits
 pub mod Masks
 pub mod Touching

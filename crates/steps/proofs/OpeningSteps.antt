@@ -8,6 +8,7 @@ use native.Mathlib.Nat.{mod-lt, div-add-mod', mul-add-mod_self_right, mod-eq_of_
 use native.Mathlib.Omega.{arith}
 use Rattle.rules.specs.declared.Kind.TheVariants.{B}
 use Rattle.rules.specs.Street.{fits}
+use Rattle.steps.specs.Plan.{turn_kind, turn_age}
 use Rattle.steps.specs.declared.plan.Stop.{Stop}
 use Rattle.steps.specs.Ranks.{fact}
 use Rattle.steps.specs.Sets.{held, marked, source, Empty, Exactly, Loses}
@@ -22,19 +23,19 @@ use Rattle.steps.proofs.OpeningMarks.{unwritten}
 use Rattle.steps.proofs.OpeningBits.{both}
 
 -- the net that a B begins, at place p
-module _ (t : Stop) (kind : t.step.kind ≡ B) (r p : ℕ) where
+module _ (t : Stop) (kind : turn_kind t.step.turn ≡ B) (r p : ℕ) where
   abbrev pub fit : Bool
   fit = fits t.streets.upper t.streets.lower (suc p) (suc t.step.count)
 
   pub begun : fit ≡ true → hop_at t r p ≡ some (p * fact t.step.count + r)
-  begun f = hop-begins t.streets.upper t.streets.lower t.step.kind t.step.age t.step.count r p kind f
+  begun f = hop-begins t.streets.upper t.streets.lower (turn_kind t.step.turn) (turn_age t.step.turn) t.step.count r p kind f
 
   pub begun-only : (x : ℕ) → hop_at t r p ≡ some x → (fit ≡ true) × (p * fact t.step.count + r ≡ x)
   begun-only x e = go fit refl
     where
       go : (v : Bool) → fit ≡ v → (fit ≡ true) × (p * fact t.step.count + r ≡ x)
       go true f = (f, same_some (begun f) e)
-      go false f = none-some (hop-unbegun t.streets.upper t.streets.lower t.step.kind t.step.age t.step.count r p kind f) e
+      go false f = none-some (hop-unbegun t.streets.upper t.streets.lower (turn_kind t.step.turn) (turn_age t.step.turn) t.step.count r p kind f) e
 
 -- a sixth net is begun between two streets of three tracks
 pub six-open : (t : Stop) → 5 ≤ t.step.count → t.step.count < t.streets.upper + t.streets.lower →
@@ -44,7 +45,7 @@ six-open t h l =
     let v = t.streets.lower_few in
     (omega arith, omega arith, omega arith)
 
-module _ (t : Stop) (s : List ℕ) (g : ℕ) (sound : Sound t) (kind : t.step.kind ≡ B) where
+module _ (t : Stop) (s : List ℕ) (g : ℕ) (sound : Sound t) (kind : turn_kind t.step.turn ≡ B) where
   abbrev unit : ℕ
   unit = fact t.step.count
 
@@ -87,7 +88,7 @@ module _ (t : Stop) (s : List ℕ) (g : ℕ) (sound : Sound t) (kind : t.step.ki
     pub none-onward : (u : List ℕ) → Loses s g (λ x. ⊥) u → Loses s g (Onward t s (suc g)) u
     none-onward u f =
         loses-map s g (λ x. ⊥) (Onward t s (suc g)) u (λ x l e p. absurd p)
-        (λ x l e o. none-some (hop-unbegun t.streets.upper t.streets.lower t.step.kind t.step.age t.step.count x o.leads.at kind (unopened o.leads.at))
+        (λ x l e o. none-some (hop-unbegun t.streets.upper t.streets.lower (turn_kind t.step.turn) (turn_age t.step.turn) t.step.count x o.leads.at kind (unopened o.leads.at))
         o.leads.lands) f
 
   pub entered-onward : (u : List ℕ) → Loses s g (Entered t.streets.upper t.streets.lower t.step.count s (suc g)) u → Loses s g (Onward t s (suc g)) u

@@ -11,8 +11,8 @@ use Rattle.rules.specs.declared.Kind.TheVariants.{B, M, E, N}
 use Rattle.rules.specs.Judgement.{left}
 use Rattle.rules.proofs.Fits.{Fits}
 use Rattle.steps.specs.declared.plan.Stop.{Stop}
-use Rattle.steps.specs.Plan.{step, stays}
-use Rattle.steps.specs.Ranks.{capacity, fact, less_of, hop_of, RankOf}
+use Rattle.steps.specs.Plan.{turn_kind, turn_age, stays}
+use Rattle.steps.specs.Ranks.{capacity, fact, less_of, RankOf, hop_by}
 use Rattle.steps.specs.Stops.{Sound}
 use Rattle.steps.specs.Leading.{Leads}
 use Rattle.steps.proofs.Ranks.{fact-of-four, fact-of-five, less-lt}
@@ -24,13 +24,13 @@ abbrev Inner : ℕ → Type 0
 Inner r = (24 ≤ r % 120) × (r % 120 < 96)
 
 -- a net begins, as the fifth or as the sixth
-module _ (ku kl a b r p x : ℕ) (hu : ku ≤ 3) (hl : kl ≤ 3) (of : RankOf b r) (e : hop_of ku kl (step B a b) r p ≡ some x) where
+module _ (ku kl a b r p x : ℕ) (hu : ku ≤ 3) (hl : kl ≤ 3) (of : RankOf b r) (e : hop_by ku kl B a b r p ≡ some x) where
   fitted : Fits ku kl (suc p) (suc b)
-  unfolding hop_of
+  unfolding hop_by
   fitted = fits-fits ku kl (suc p) (suc b) (kept (fits ku kl (suc p) (suc b)) (p * fact b + r) x e).0
 
   made : p * fact b + r ≡ x
-  unfolding hop_of
+  unfolding hop_by
   made = (kept (fits ku kl (suc p) (suc b)) (p * fact b + r) x e).1
 
   begun-fifth : b ≡ 4 → Inner x
@@ -54,9 +54,9 @@ module _ (ku kl a b r p x : ℕ) (hu : ku ≤ 3) (hl : kl ≤ 3) (of : RankOf b 
       ((omega arith, omega arith), (omega arith, omega arith))
 
 -- a net ends with six open
-ended-six : (t : Stop) → Sound t → t.step.kind ≡ E → t.step.count ≡ 6 → (r x : ℕ) → RankOf 6 r → Leads t r x → Inner x
+ended-six : (t : Stop) → Sound t → turn_kind t.step.turn ≡ E → t.step.count ≡ 6 → (r x : ℕ) → RankOf 6 r → Leads t r x → Inner x
 unfolding fact
-ended-six t ok ends six r x of m = go t.step.age refl
+ended-six t ok ends six r x of m = go (turn_age t.step.turn) refl
   where
     mid : (240 ≤ r) × (r < 480)
     mid = of.middle refl
@@ -67,7 +67,7 @@ ended-six t ok ends six r x of m = go t.step.age refl
     m' : Leads t (120 * (r / 120) + r % 120) x
     m' = rw v m
 
-    go : (a : ℕ) → t.step.age ≡ a → Inner x
+    go : (a : ℕ) → turn_age t.step.turn ≡ a → Inner x
     go zero z =
         let e : r % 120 ≡ x = leads-first t ok ends six (r / 120) (r % 120) (omega (arith, mid.0)) (omega (arith, mid.1)) (omega arith) z x m' in
         let i = of.inner (omega arith) in
@@ -79,21 +79,21 @@ ended-six t ok ends six r x of m = go t.step.age refl
 
 -- a stop leads from a rank that hops can lead to to another
 module _ (t : Stop) (ok : Sound t) (r x : ℕ) (of : RankOf t.step.count r) (m : Leads t r x) where
-  at-kind : (k : Kind) → t.step.kind ≡ k → hop_of t.streets.upper t.streets.lower (step k t.step.age t.step.count) r m.at ≡ some x
+  at-kind : (k : Kind) → turn_kind t.step.turn ≡ k → hop_by t.streets.upper t.streets.lower k (turn_age t.step.turn) t.step.count r m.at ≡ some x
   at-kind k q = rw (← q) m.lands
 
-  still : (k : Kind) → t.step.kind ≡ k → IsTrue (stays k) → r ≡ x
-  still k q h = hop-still t.streets.upper t.streets.lower k t.step.age t.step.count r m.at x h (at-kind k q)
+  still : (k : Kind) → turn_kind t.step.turn ≡ k → IsTrue (stays k) → r ≡ x
+  still k q h = hop-still t.streets.upper t.streets.lower k (turn_age t.step.turn) t.step.count r m.at x h (at-kind k q)
 
-  inner : (k : Kind) → t.step.kind ≡ k → 5 ≤ left k t.step.count → Inner x
-  unfolding left hop_of
+  inner : (k : Kind) → turn_kind t.step.turn ≡ k → 5 ≤ left k t.step.count → Inner x
+  unfolding left hop_by
   inner B q h = go (ℕ_discrete t.step.count 4) (ℕ_discrete t.step.count 5)
     where
       go : Dec (t.step.count ≡ 4) → Dec (t.step.count ≡ 5) → Inner x
-      go (yes c) d = begun-fifth t.streets.upper t.streets.lower t.step.age t.step.count r m.at x t.streets.upper_few t.streets.lower_few of (at-kind B q) c
-      go (no n) (yes c) = (begun-sixth t.streets.upper t.streets.lower t.step.age t.step.count r m.at x t.streets.upper_few t.streets.lower_few of (at-kind B q) c).0
+      go (yes c) d = begun-fifth t.streets.upper t.streets.lower (turn_age t.step.turn) t.step.count r m.at x t.streets.upper_few t.streets.lower_few of (at-kind B q) c
+      go (no n) (yes c) = (begun-sixth t.streets.upper t.streets.lower (turn_age t.step.turn) t.step.count r m.at x t.streets.upper_few t.streets.lower_few of (at-kind B q) c).0
       go (no n) (no c) =
-          let f = fitted t.streets.upper t.streets.lower t.step.age t.step.count r m.at x t.streets.upper_few t.streets.lower_few of (at-kind B q) in
+          let f = fitted t.streets.upper t.streets.lower (turn_age t.step.turn) t.step.count r m.at x t.streets.upper_few t.streets.lower_few of (at-kind B q) in
           absurd (omega (arith, f.sum, t.streets.upper_few, t.streets.lower_few, ok.few, n, c))
   inner M q h =
       rw (still M q refl) at (of.inner h)
@@ -102,19 +102,19 @@ module _ (t : Stop) (ok : Sound t) (r x : ℕ) (of : RankOf t.step.count r) (m :
       ended-six t ok q c r x (rw c at of) m
   inner N q h = rw (still N q refl) at (of.inner h)
 
-  middle : (k : Kind) → t.step.kind ≡ k → left k t.step.count ≡ capacity → (240 ≤ x) × (x < 480)
-  unfolding left hop_of
+  middle : (k : Kind) → turn_kind t.step.turn ≡ k → left k t.step.count ≡ capacity → (240 ≤ x) × (x < 480)
+  unfolding left hop_by
   middle B q h =
-      (begun-sixth t.streets.upper t.streets.lower t.step.age t.step.count r m.at x t.streets.upper_few t.streets.lower_few of (at-kind B q) (omega arith)).1
+      (begun-sixth t.streets.upper t.streets.lower (turn_age t.step.turn) t.step.count r m.at x t.streets.upper_few t.streets.lower_few of (at-kind B q) (omega arith)).1
   middle M q h =
       rw (still M q refl) at (of.middle h)
   middle E q h = absurd (omega (arith, ok.few))
   middle N q h = rw (still N q refl) at (of.middle h)
 
-  pub leads-rank : RankOf (left t.step.kind t.step.count) x
+  pub leads-rank : RankOf (left (turn_kind t.step.turn) t.step.count) x
   leads-rank =
       record {
-        below = (hop-made t.streets.upper t.streets.lower t.step.kind t.step.age t.step.count r m.at x m.lands).lands ok.touched of.below;
-        inner = inner t.step.kind refl;
-        middle = middle t.step.kind refl;
+        below = (hop-made t.streets.upper t.streets.lower (turn_kind t.step.turn) (turn_age t.step.turn) t.step.count r m.at x m.lands).lands ok.touched of.below;
+        inner = inner (turn_kind t.step.turn) refl;
+        middle = middle (turn_kind t.step.turn) refl;
       }

@@ -8,7 +8,7 @@ use lib.Bits.{bit_or}
 use lib.Dec.{leb, eqb}
 use borrow.Author.Tests.{eqb-true, leb-true, eq-eqb}
 use Rattle.std.specs.Prelude.{IsTrue}
-use Rattle.steps.specs.Plan.{stays}
+use Rattle.steps.specs.Plan.{turn_kind, turn_age, stays}
 use Rattle.rules.specs.declared.Kind.TheVariants.{N}
 use Rattle.rules.specs.Basic.{every}
 use Rattle.rules.proofs.Choices.{lowest-fits}
@@ -80,22 +80,22 @@ module _ (b k : ℕ) where
       sym (slots-few b k h)
 
 -- a blank
-module _ (t : Stop) (s : List ℕ) (g : ℕ) (rests : t.step.kind ≡ N) where
+module _ (t : Stop) (s : List ℕ) (g : ℕ) (rests : turn_kind t.step.turn ≡ N) where
   -- it is passed where the streets have tracks for the open nets
   rest-keeps : t.step.count ≤ t.streets.upper + t.streets.lower → Keeps t (λ r. true)
   rest-keeps h =
       record {
         leads = λ r o e. record {
           at = t.step.count - t.streets.lower;
-          lands = hop-rests t.streets.upper t.streets.lower t.step.kind t.step.age t.step.count r (t.step.count - t.streets.lower) rests (lowest-fits t.streets.upper t.streets.lower t.step.count h);
+          lands = hop-rests t.streets.upper t.streets.lower (turn_kind t.step.turn) (turn_age t.step.turn) t.step.count r (t.step.count - t.streets.lower) rests (lowest-fits t.streets.upper t.streets.lower t.step.count h);
         };
-        only = λ r x o l. (hop-still t.streets.upper t.streets.lower t.step.kind t.step.age t.step.count r l.at x (rw rests refl) l.lands, refl);
+        only = λ r x o l. (hop-still t.streets.upper t.streets.lower (turn_kind t.step.turn) (turn_age t.step.turn) t.step.count r l.at x (rw rests refl) l.lands, refl);
       }
 
   pub rest-none : t.streets.upper + t.streets.lower < t.step.count → Empty s g → Exactly s g (Reached t s g) s
   rest-none h z =
       unreached t s g z
-      (λ x r. omega (arith, h, (hop-rested t.streets.upper t.streets.lower t.step.kind t.step.age t.step.count r.rank r.leads.at x rests r.leads.lands).sum))
+      (λ x r. omega (arith, h, (hop-rested t.streets.upper t.streets.lower (turn_kind t.step.turn) (turn_age t.step.turn) t.step.count r.rank r.leads.at x rests r.leads.lands).sum))
 
   -- at most four nets, five, six
   module _ (u : List ℕ) (sound : Sound t) (within : t.step.count ≤ t.streets.upper + t.streets.lower) (z : Empty s g) (o : Sources t s g) where
@@ -163,10 +163,10 @@ redone-join s g K L Q P u v same a b =
     done x h false q e = b.left x h q ∙ a.done x h (first_of (K (slot x)) e)
 
 -- where no net begins or ends the ranks that are marked after the node are those that lead on
-module _ (t : Stop) (s : List ℕ) (g : ℕ) (u : List ℕ) (sound : Sound t) (still-open : IsTrue (stays t.step.kind)) (o : Sources t s (suc g))
+module _ (t : Stop) (s : List ℕ) (g : ℕ) (u : List ℕ) (sound : Sound t) (still-open : IsTrue (stays (turn_kind t.step.turn))) (o : Sources t s (suc g))
     (reached : (x : ℕ) → marked s (suc g) x ≡ true → Reached t s (suc g) x) where
   still : (r x : ℕ) → Leads t r x → r ≡ x
-  still r x l = hop-still t.streets.upper t.streets.lower t.step.kind t.step.age t.step.count r l.at x still-open l.lands
+  still r x l = hop-still t.streets.upper t.streets.lower (turn_kind t.step.turn) (turn_age t.step.turn) t.step.count r l.at x still-open l.lands
 
   -- a mark after the node is one before it, and the node leads from it to itself
   after-before : (x : ℕ) → marked s (suc g) x ≡ true → (marked s g x ≡ true) × Leads t x x

@@ -12,6 +12,7 @@ use Rattle.rules.specs.declared.Kind.TheVariants.{M}
 use Rattle.rules.specs.Basic.{pick, every}
 use Rattle.rules.proofs.Fits.{Fits}
 use Rattle.rules.proofs.PinsTest.{every-at}
+use Rattle.steps.specs.Plan.{turn_kind, turn_age}
 use Rattle.steps.specs.declared.plan.Stop.{Stop}
 use Rattle.steps.specs.Ranks.{capacity, fact, RankOf, at_of}
 use Rattle.steps.specs.Sets.{ranks, slots, held, slot, word_at, bit, marked, source, Written, Empty, Some, Bare, Exactly}
@@ -236,13 +237,13 @@ slot-six x h l = go (slot_cases x h)
 
 -- at most four nets: the one word
 pub few-done : (t : Stop) (l : ℕ) (s : List ℕ) (g h m w : ℕ) (v : List ℕ) → g ≡ suc h → t.step.count < 5 → Sources t s g →
-    Mask (fact t.step.count) (λ r. bit l (at_of t.step.age t.step.count r)) m → w ≡ bit_and (word_at s h 0) m → Written s g 0 w v →
-    Redone s g (λ k. false || eqb k 0) (λ x. marked s h x && bit l (at_of t.step.age t.step.count x)) v
+    Mask (fact t.step.count) (λ r. bit l (at_of (turn_age t.step.turn) t.step.count r)) m → w ≡ bit_and (word_at s h 0) m → Written s g 0 w v →
+    Redone s g (λ k. false || eqb k 0) (λ x. marked s h x && bit l (at_of (turn_age t.step.turn) t.step.count x)) v
 few-done t l s g h m w v eg few o f ew b =
     sift-more s g h P (λ k. false) 0 m w s v (λ e. omega arith) ew b at-rank (redone-start s g (λ x. marked s h x && P x))
   where
     P : ℕ → Bool
-    P x = bit l (at_of t.step.age t.step.count x)
+    P x = bit l (at_of (turn_age t.step.turn) t.step.count x)
 
     at-rank : (x : ℕ) → held x ≡ true → slot x ≡ 0 → marked s h x ≡ true → bit m (x % 24) ≡ P x
     at-rank x i e q =
@@ -388,20 +389,20 @@ kept-exactly t s g P K Q u few keeps same f z o a =
         rw (← e) (a.done y l c ∙ same y ∙ ap₂ ◌&&◌ r.from i)
 
 -- a node that touches a net
-module _ (t : Stop) (s : List ℕ) (g h : ℕ) (eg : g ≡ suc h) (sound : Sound t) (touches : t.step.kind ≡ M) where
+module _ (t : Stop) (s : List ℕ) (g h : ℕ) (eg : g ≡ suc h) (sound : Sound t) (touches : turn_kind t.step.turn ≡ M) where
   room-leads : (r : ℕ) → roomy t r ≡ true → Leads t r r
   unfolding room_at
-  room-leads r e = record { at = at_of t.step.age t.step.count r; lands = hop-meets t.streets.upper t.streets.lower t.step.kind t.step.age t.step.count r (at_of t.step.age t.step.count r) touches refl e }
+  room-leads r e = record { at = at_of (turn_age t.step.turn) t.step.count r; lands = hop-meets t.streets.upper t.streets.lower (turn_kind t.step.turn) (turn_age t.step.turn) t.step.count r (at_of (turn_age t.step.turn) t.step.count r) touches refl e }
 
   leads-room : (r x : ℕ) → Leads t r x → (r ≡ x) × (roomy t r ≡ true)
   unfolding room_at
-  leads-room r x l = hop-met t.streets.upper t.streets.lower t.step.kind t.step.age t.step.count r l.at x touches l.lands
+  leads-room r x l = hop-met t.streets.upper t.streets.lower (turn_kind t.step.turn) (turn_age t.step.turn) t.step.count r l.at x touches l.lands
 
   room-sum : (r : ℕ) → t.streets.upper + t.streets.lower < t.step.count → roomy t r ≡ true → ⊥
   unfolding room_at
   room-sum r c e =
-      let f : Fits t.streets.upper t.streets.lower (suc (at_of t.step.age t.step.count r)) t.step.count =
-      fits-fits t.streets.upper t.streets.lower (suc (at_of t.step.age t.step.count r)) t.step.count e in
+      let f : Fits t.streets.upper t.streets.lower (suc (at_of (turn_age t.step.turn) t.step.count r)) t.step.count =
+      fits-fits t.streets.upper t.streets.lower (suc (at_of (turn_age t.step.turn) t.step.count r)) t.step.count e in
       omega arith
 
   -- P tells, of the ranks before the node, where the net has room
@@ -421,32 +422,32 @@ module _ (t : Stop) (s : List ℕ) (g h : ℕ) (eg : g ≡ suc h) (sound : Sound
 
   -- at most four nets, five, six
   module _ (z : Empty s g) (o : Sources t s g) where
-    among : t.step.age < t.step.count
+    among : turn_age t.step.turn < t.step.count
     among = touched-at t sound M touches refl
 
     pub few-exactly : (l : ℕ) (u : List ℕ) → t.step.count < 5 → Legal t.streets.upper t.streets.lower t.step.count l →
-        Redone s g (λ k. false || eqb k 0) (λ x. marked s h x && bit l (at_of t.step.age t.step.count x)) u → Exactly s g (Reached t s g) u
+        Redone s g (λ k. false || eqb k 0) (λ x. marked s h x && bit l (at_of (turn_age t.step.turn) t.step.count x)) u → Exactly s g (Reached t s g) u
     few-exactly l u few f a =
-        redone-exactly (λ x. bit l (at_of t.step.age t.step.count x)) (λ k. false || eqb k 0) u
-        (λ x r. legal-room t.streets.upper t.streets.lower t.step.age t.step.count l x f among r.below) (λ k i. sym (slots-few t.step.count k few)) z o a
+        redone-exactly (λ x. bit l (at_of (turn_age t.step.turn) t.step.count x)) (λ k. false || eqb k 0) u
+        (λ x r. legal-room t.streets.upper t.streets.lower (turn_age t.step.turn) t.step.count l x f among r.below) (λ k i. sym (slots-few t.step.count k few)) z o a
 
     pub five-exactly : (l e any : ℕ) (u : List ℕ) → t.step.count ≡ 5 → Legal t.streets.upper t.streets.lower 5 l → 4 ≤ e → e ≤ 4 →
-        Sifts s g (between 1 e) (Five t.step.age l s g h) u any → Exactly s g (Reached t s g) u
+        Sifts s g (between 1 e) (Five (turn_age t.step.turn) l s g h) u any → Exactly s g (Reached t s g) u
     five-exactly l e any u eb f i j a =
         let d : e ≡ 4 = omega arith in
-        redone-exactly (λ x. bit l (at_of t.step.age 5 x)) (between 1 e) u
+        redone-exactly (λ x. bit l (at_of (turn_age t.step.turn) 5 x)) (between 1 e) u
         (λ x r.
         let b : x < fact 5 = rw eb at r.below in
-        legal-room t.streets.upper t.streets.lower t.step.age 5 l x f (omega (arith, among)) b ∙ ap (λ (n : ℕ). room_at t.streets.upper t.streets.lower t.step.age n x) (sym eb))
+        legal-room t.streets.upper t.streets.lower (turn_age t.step.turn) 5 l x f (omega (arith, among)) b ∙ ap (λ (n : ℕ). room_at t.streets.upper t.streets.lower (turn_age t.step.turn) n x) (sym eb))
         (λ k m. ap (λ (n : ℕ). between 1 n k) d ∙ sym (slots-five t.step.count k eb)) z o a.redone
 
     pub six-exactly : (e any : ℕ) (u : List ℕ) → t.step.count ≡ 6 → 6 ≤ t.streets.upper + t.streets.lower → 4 ≤ e → e ≤ 4 →
-        Sifts s g (paired e) (Six t.step.age s g h) u any → Exactly s g (Reached t s g) u
+        Sifts s g (paired e) (Six (turn_age t.step.turn) s g h) u any → Exactly s g (Reached t s g) u
     six-exactly e any u eb sum i j a =
         let d : e ≡ 4 = omega arith in
         let eu : t.streets.upper ≡ 3 = omega (arith, t.streets.upper_few, t.streets.lower_few) in
         let el : t.streets.lower ≡ 3 = omega (arith, t.streets.upper_few, t.streets.lower_few) in
-        redone-exactly (room_at 3 3 t.step.age 6) (paired e) u (λ x r. rw (eu, el, eb))
+        redone-exactly (room_at 3 3 (turn_age t.step.turn) 6) (paired e) u (λ x r. rw (eu, el, eb))
         (λ k m. ap (λ (n : ℕ). paired n k) d ∙ pair-all t.step.count k eb) z o a.redone
 
   -- where no order fits nothing is led to

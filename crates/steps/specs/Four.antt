@@ -1,7 +1,7 @@
 -- Sets of orders of four nets in one word, bit i for the order of rank i; and the tables that tell what an ending leaves of them.
 --
 -- A net is named by its elders here, how many of the four are older: its age is 3 less that.
-use Rattle.std.specs.Prelude.{◌≡◌, Bool, true, false, ◌&&◌, ◌||◌, List, ℕ, zero, suc, ◌+◌, ◌-◌, ◌*◌, ◌/◌, ◌%◌, ◌^◌, ◌≤◌, ◌<◌, length, get_or, leb, eqb}
+use Rattle.std.specs.Prelude.{◌≡◌, Bool, true, false, ◌&&◌, ◌||◌, List, [], ℕ, zero, suc, ◌+◌, ◌-◌, ◌*◌, ◌/◌, ◌%◌, ◌^◌, ◌≤◌, ◌<◌, length, get_or, leb, eqb}
 use Rattle.std.specs.Int.Bits.{bit_and, bit_or}
 use Rattle.rules.specs.Basic.{pick}
 use Rattle.rules.specs.Street.{fits}
@@ -54,15 +54,24 @@ pub record Mask (n : ℕ) (t : ℕ → Bool) (z : ℕ) : Type 0 where
 abbrev pub piece_left : (e p x : ℕ) → ℕ
 piece_left e p x = image (λ m. left_of e (6 * p + m)) x 6
 
--- the words of the tables: in byte p of word x what is left of a piece x where it is the one of p; what leads back; who stands where;
--- where the net of a node may stand, of b that are open there; a net's place in an order and the rank of the others
-pub record TableWords (t : List ℕ) : Type 0 where
-  pub long : length t ≡ 800
-  pub rest : (e p x : ℕ) → e < 4 → p < 4 → x < 64 → get_or t (64 * e + x) 0 / 2 ^ (8 * p) % 256 ≡ piece_left e p x
-  pub back : (e y : ℕ) → e < 4 → y < 64 → get_or t (256 + 64 * e + y) 0 ≡ gather (λ i. bit y (left_of e i)) 24
-  pub stand : (e q : ℕ) → e < 4 → q < 16 → get_or t (512 + 16 * e + q) 0 ≡ gather (λ i. bit q (place_of e i)) 24
-  pub legal : (ku kl b : ℕ) → ku < 4 → kl < 4 → b < 8 → get_or t (576 + 32 * ku + 8 * kl + b) 0 ≡ gather (λ p. fits ku kl (suc p) b) b
-  pub spot : (e r : ℕ) → e < 4 → r < 24 → get_or t (704 + 24 * e + r) 0 ≡ 8 * place_of e r + left_of e r
+-- the entry of a table with two indices, and with three
+abbrev pub entry₂ : List (List ℕ) → (i j : ℕ) → ℕ
+entry₂ t i j = get_or (get_or t i []) j 0
+
+abbrev pub entry₃ : List (List (List ℕ)) → (i j k : ℕ) → ℕ
+entry₃ t i j k = get_or (get_or (get_or t i []) j []) k 0
+
+abbrev pub pair₂ : List (List (ℕ × ℕ)) → (i j : ℕ) → ℕ × ℕ
+pair₂ t i j = get_or (get_or t i []) j (0, 0)
+
+-- the tables: what is left of a piece x where it is the one of p; what leads back; who stands where; where the net of a node may stand, of b that are
+-- open there; a net's place in an order and the rank of the others
+pub record TableWords (ls : List (List (List ℕ))) (bs ss : List (List ℕ)) (gs : List (List (List ℕ))) (ps : List (List (ℕ × ℕ))) : Type 0 where
+  pub rest : (e p x : ℕ) → e < 4 → p < 4 → x < 64 → entry₃ ls e p x ≡ piece_left e p x
+  pub back : (e y : ℕ) → e < 4 → y < 64 → entry₂ bs e y ≡ gather (λ i. bit y (left_of e i)) 24
+  pub stand : (e q : ℕ) → e < 4 → q < 16 → entry₂ ss e q ≡ gather (λ i. bit q (place_of e i)) 24
+  pub legal : (ku kl b : ℕ) → ku < 4 → kl < 4 → b < 8 → entry₃ gs ku kl b ≡ gather (λ p. fits ku kl (suc p) b) b
+  pub spot : (e r : ℕ) → e < 4 → r < 24 → ((pair₂ ps e r).0 ≡ place_of e r) × ((pair₂ ps e r).1 ≡ left_of e r)
 
 -- l is the set of the places where the net of a node may stand, of b that are open there
 pub record Legal (ku kl b l : ℕ) : Type 0 where

@@ -4,6 +4,7 @@ use Rattle.std.specs.Int.Bits.{bit_and}
 use Rattle.rules.specs.Basic.{pick}
 use Rattle.rules.specs.Street.{fits}
 use Rattle.steps.specs.declared.plan.Stop.{Stop}
+use Rattle.steps.specs.Plan.{turn_age}
 use Rattle.steps.specs.Ranks.{RankOf, at_of}
 use Rattle.steps.specs.Sets.{held, slot, word_at, bit, marked, source, Written}
 
@@ -20,7 +21,7 @@ unfoldable pub room_at : (ku kl a b r : ℕ) → Bool
 room_at ku kl a b r = fits ku kl (suc (at_of a b r)) b
 
 abbrev pub roomy : Stop → ℕ → Bool
-roomy t r = room_at t.streets.upper t.streets.lower t.step.age t.step.count r
+roomy t r = room_at t.streets.upper t.streets.lower (turn_age t.step.turn) t.step.count r
 
 -- the ranks before node g are of the nets that the stop finds open
 abbrev pub Sources : Stop → List ℕ → ℕ → Type 0

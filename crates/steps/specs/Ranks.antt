@@ -4,10 +4,12 @@
 use Rattle.std.specs.Prelude.{◌≡◌, ◌&&◌, List, [], ◌∷◌, ℕ, zero, suc, ◌+◌, ◌-◌, ◌*◌, ◌/◌, ◌%◌, ◌<◌, ◌≤◌, length, leb, eqb}
 use Rattle.std.proofs.Math.Option.{Option, none, some}
 use Rattle.rules.specs.Basic.{pick, put, keep, and_then}
+use Rattle.rules.specs.declared.Kind.{Kind}
 use Rattle.rules.specs.declared.Kind.TheVariants.{B, M, E, N}
 use Rattle.rules.specs.Street.{fits, fits_at}
 use Rattle.rules.specs.Judgement.{left}
 use Rattle.steps.specs.declared.plan.Step.{Step}
+use Rattle.steps.specs.Plan.{turn_kind, turn_age}
 
 -- the most nets that can be open: two streets have at most six tracks. The positions that the limits allow are below it.
 abbrev pub capacity : ℕ
@@ -43,15 +45,19 @@ less_of a zero r = 0
 less_of zero (suc b) r = r % fact b
 less_of (suc a) (suc b) r = spared (r / fact b) (at_of a b (r % fact b)) * fact (b - 1) + less_of a b (r % fact b)
 
--- one node on ranks, at position p: the rank after it, or none where a rule of the street is broken
-unfoldable pub hop_of : (ku kl : ℕ) → Step → (r p : ℕ) → Option ℕ
-hop_of ku kl s r p =
-    elim s.kind [
-      | B ↦ keep (fits ku kl (suc p) (suc s.count)) (p * fact s.count + r)
-      | M ↦ keep (eqb p (at_of s.age s.count r) && fits ku kl (suc p) s.count) r
-      | E ↦ keep (eqb p (at_of s.age s.count r) && fits ku kl (suc p) s.count) (less_of s.age s.count r)
-      | N ↦ keep (fits_at N ku kl (suc p) s.count) r
+-- one node on ranks, by its kind, the age of its net and the open nets before it, at position p: the rank after it, or none where a rule of the street is broken
+unfoldable pub hop_by : (ku kl : ℕ) → Kind → (a b r p : ℕ) → Option ℕ
+hop_by ku kl k a b r p =
+    elim k [
+      | B ↦ keep (fits ku kl (suc p) (suc b)) (p * fact b + r)
+      | M ↦ keep (eqb p (at_of a b r) && fits ku kl (suc p) b) r
+      | E ↦ keep (eqb p (at_of a b r) && fits ku kl (suc p) b) (less_of a b r)
+      | N ↦ keep (fits_at N ku kl (suc p) b) r
     ]
+
+-- the same by its step
+abbrev pub hop_of : (ku kl : ℕ) → Step → (r p : ℕ) → Option ℕ
+hop_of ku kl s r p = hop_by ku kl (turn_kind s.turn) (turn_age s.turn) s.count r p
 
 -- the steps from rank r on, with a position for each
 unfoldable pub hops : (ku kl : ℕ) → List Step → ℕ → List ℕ → Option ℕ
@@ -63,7 +69,7 @@ hops ku kl (s ∷ ss) r (p ∷ ps) = and_then (hop_of ku kl s r p) (λ x. hops k
 -- the nets open after steps, where b were before them
 unfoldable pub open_after : ℕ → List Step → ℕ
 open_after b [] = b
-open_after b (s ∷ ss) = open_after (left s.kind b) ss
+open_after b (s ∷ ss) = open_after (left (turn_kind s.turn) b) ss
 
 -- r is the rank of an order of b nets that hops can lead to: of five or six, the fifth has one, two or three of its elders above it, and of six the youngest has two or
 -- three others

@@ -6,22 +6,22 @@ ghost use Rattle.steps.specs.Sets.{bit};
 ghost use Rattle.steps.specs.Four.{Gone, comes, within, left_of, over_at, under_at, Passing, Piece, Inside};
 
 use crate::end::Five;
-use crate::tables::Tables;
+use crate::tables::{back, standing, without};
 
 // How many of the five are older, and the places where the net may stand.
 #[derive(Clone, Copy)]
-pub(crate) struct Older<'a> {
-    pub tables: Tables<'a>,
+pub(crate) struct Older {
     pub elders: usize,
     pub places: u32,
     ghost few: { elders < 4 },
     ghost inside: { Inside places },
 }
 
-impl<'a> Older<'a> {
+// d is the number of a place, and `d < 4` is asked where shifts and masks go by it.
+impl Older {
     // The orders of four left of those of five: the youngest is the youngest of the four that are left, and has one or two above it.
     pub(crate) fn left(self, five: Five) -> u32
-        ensures { Gone 5 (4 - self.entry.elders) self.entry.places (within five) result }
+        ensures { Gone 5 (4 - self.elders) self.places (within five) result }
     {
         let b = self.piece_left(1, five.second, five.third);
         let c = self.piece_left(2, five.third, five.fourth);
@@ -31,32 +31,30 @@ impl<'a> Older<'a> {
     // The ranks of three left with the youngest at d: of x it was there and the net below, of y one lower and the net above.
     fn piece_left(self, d: usize, x: u32, y: u32) -> u32
         requires { d < 4 }
-        ensures { Piece self.entry.elders self.entry.places d x y result }
+        ensures { Piece self.elders self.places d x y result }
     {
-        self.tables
-            .without(self.elders, x & self.over_at(d) | y & self.under_at(d))
+        without(self.elders, x & self.over_at(d) | y & self.under_at(d))
     }
 
     // The orders of four in which the net stands at d or lower, and is at a legal place with one more above.
     fn over_at(self, d: usize) -> u32
         requires { d < 4 }
-        ensures { Passing (over_at self.entry.elders self.entry.places d) result }
+        ensures { Passing (over_at self.elders self.places d) result }
     {
-        self.tables
-            .standing(self.elders, (self.places >> (d + 1)) << d)
+        standing(self.elders, (self.places >> (d + 1)) << d)
     }
 
     // The orders of four in which the net stands at d or higher, and at a legal place.
     fn under_at(self, d: usize) -> u32
         requires { d < 4 }
-        ensures { Passing (under_at self.entry.elders self.entry.places d) result }
+        ensures { Passing (under_at self.elders self.places d) result }
     {
-        self.tables.standing(self.elders, self.places % (2u32 << d))
+        standing(self.elders, self.places % (2u32 << d))
     }
 
     // The orders of five that leave one of n: the net stood below the youngest or above it.
     pub(crate) fn back(self, n: u32) -> Five
-        ensures { (r : ℕ) → 24 ≤ r → r < 96 → within result r ≡ comes 5 (4 - self.entry.elders) self.entry.places n r }
+        ensures { (r : ℕ) → 24 ≤ r → r < 96 → within result r ≡ comes 5 (4 - self.elders) self.places n r }
     {
         let below = self.piece_back(1, n, self.over_at(1));
         let lower = self.piece_back(2, n, self.over_at(2));
@@ -72,8 +70,8 @@ impl<'a> Older<'a> {
     // Of the orders z of four those that leave, without the net, an order of n with the youngest at d.
     fn piece_back(self, d: usize, n: u32, z: u32) -> u32
         requires { d < 4 }
-        ensures { Passing (λ i. bit z i && bit n (6 * d + left_of self.entry.elders i)) result }
+        ensures { Passing (λ i. bit z i && bit n (6 * d + left_of self.elders i)) result }
     {
-        z & self.tables.back(self.elders, (n >> (6 * d)) % 64)
+        z & back(self.elders, (n >> (6 * d)) % 64)
     }
 }

@@ -3,17 +3,15 @@
 // A new net at place p among b others, over an order of rank r, makes rank p · b! + r. Up to three others a set is one word, which holds
 // the old one once for each place; from four on each place has words of its own.
 ghost use Rattle.std.specs.Prelude.{◌≡◌, true, ℕ, suc, ◌+◌, ◌*◌, ◌≤◌, ◌<◌, length};
-ghost use Rattle.rules.specs.Basic.{pick};
-ghost use Rattle.rules.specs.declared.Kind.TheVariants.{B};
 ghost use Rattle.steps.specs.Ranks.{fact, RankOf};
 ghost use Rattle.steps.specs.Sets.{ranks, stretch, marked, source, Empty, Exactly, Bare, Loses};
 ghost use Rattle.steps.specs.Nodes.{ToSpread, ToPrune};
 ghost use Rattle.steps.specs.Leading.{Reached, Onward};
+ghost use Rattle.steps.specs.Stops.{opening};
 ghost use Rattle.steps.specs.Opening.{Places, Under, Copies, Joined, Opened, Entered};
 
-use crate::plan::Stop;
 use crate::rank::factorial;
-use crate::word::{STRETCH, keep_word, put_word, ranks_before, word};
+use crate::word::{STRETCH, keep_word, only, put_word, ranks_before, word};
 use rules::Streets;
 
 // By how many others there are and the tracks of the upper and of the lower street: the places that are left to a new net.
@@ -34,23 +32,21 @@ static PLACES: [[[u32; 4]; 4]; 4] = [
     ],
 ];
 
-// Marks in gap g, which is empty, every rank that node g, a B, leads to, and tells whether there is none.
-pub fn open(work: &mut [u8], g: usize, stop: Stop) -> bool
-    requires given { ToSpread stop work.old g }
-    requires kind { stop.step.kind ≡ B }
-    ensures exactly { Exactly work.old g (Reached stop work.old g) work.new }
+// b and the streets are two parameters, here and at `unopen` and `rest`, and not the caller's `Stop`: of that it would be asked again that it begins a net.
+//
+// Marks in gap g, which is empty, every rank that a node that begins a net among b others leads to, and tells whether there is none.
+pub fn open(work: &mut [u8], g: usize, b: u8, streets: Streets) -> bool
+    requires given { ToSpread (opening b streets) work.old g }
+    ensures exactly { Exactly work.old g (Reached (opening b streets) work.old g) work.new }
     ensures bare { Bare work.new g result }
 {
-    let streets = stop.streets;
-    let b = stop.step.count;
-    if b < 4 {
-        open_few(work, g, streets, b as usize)
-    } else if streets.upper + streets.lower <= b {
-        true
-    } else if b == 4 {
-        open_fifth(work, g, streets)
-    } else {
-        open_sixth(work, g)
+    // A function for each: up to four nets are one word with a copy for each place, five have a word for each place, and six two places with three words each.
+    // Each asks for its count and an empty gap again, which say what its words are.
+    match b {
+        0..=3 => open_few(work, g, streets, b as usize),
+        _ if streets.upper + streets.lower <= b => true,
+        4 => open_fifth(work, g, streets),
+        _ => open_sixth(work, g),
     }
 }
 
@@ -93,6 +89,7 @@ fn open_sixth(work: &mut [u8], g: usize) -> bool
     ensures bare { Bare work.new g result }
 {
     let mut any: u32 = 0;
+    // By number: k is the place of the fifth net, and names three slots.
     for k in 1..4 {
         let w = ranks_before(work, g, k);
         put_word(work, g, 5 + k, w);
@@ -102,22 +99,17 @@ fn open_sixth(work: &mut [u8], g: usize) -> bool
     any == 0
 }
 
-// Leaves in gap g only the ranks from which the node after it, a B, leads to a marked rank.
-pub fn unopen(work: &mut [u8], g: usize, stop: Stop)
-    requires given { ToPrune stop work.old g }
-    requires kind { stop.step.kind ≡ B }
-    ensures { Loses work.old g (Onward stop work.old (suc g)) work.new }
+// Leaves in gap g only the ranks from which a node after it that begins a net among b others leads to a marked rank.
+pub fn unopen(work: &mut [u8], g: usize, b: u8, streets: Streets)
+    requires given { ToPrune (opening b streets) work.old g }
+    ensures { Loses work.old g (Onward (opening b streets) work.old (suc g)) work.new }
 {
-    let streets = stop.streets;
-    let b = stop.step.count;
-    if b < 4 {
-        unopen_few(work, g, streets, b as usize);
-    } else if streets.upper + streets.lower <= b {
-        clear(work, g);
-    } else if b == 4 {
-        unopen_fifth(work, g, streets);
-    } else {
-        unopen_sixth(work, g);
+    // A function for each, as in `open`.
+    match b {
+        0..=3 => unopen_few(work, g, streets, b as usize),
+        _ if streets.upper + streets.lower <= b => clear(work, g),
+        4 => unopen_fifth(work, g, streets),
+        _ => unopen_sixth(work, g),
     }
 }
 
@@ -149,6 +141,7 @@ fn unopen_sixth(work: &mut [u8], g: usize)
     requires by_index { (x : ℕ) → marked work.old g x ≡ true → RankOf 5 x }
     ensures { Loses work.old g (Entered 3 3 5 work.old (suc g)) work.new }
 {
+    // By number, as in `open_sixth`.
     for k in 1..4 {
         let x = word(work, g + 1, 5 + k) | word(work, g + 1, 10 + k);
         keep_word(work, g, k, x);
@@ -162,16 +155,6 @@ pub fn clear(work: &mut [u8], g: usize)
 {
     let i = STRETCH * g;
     work[i..i + 60].fill(0);
-}
-
-// A word, where a test passes.
-fn only(t: bool, w: u32) -> u32
-    ensures { result ≡ pick t w 0 }
-{
-    if t {
-        return w;
-    }
-    0
 }
 
 // The low f bits of w four times.

@@ -9,21 +9,23 @@ pub enter_few-requires-clause-somewhere : goal.enter_few-requires-clause-somewhe
 enter_few-requires-clause-somewhere c =
     let a = c.args in
     let h = c.requires in
-    few-somewhere a.b a.r c.if-b-lt4.true h.g_in_bounds.2 a.work.now a.g c.word.result c.word.ensures h.somewhere
+    few-somewhere a.b a.r (omega arith) h.g_in_bounds.2 a.work.now a.g c.word.result c.word.ensures h.somewhere
 
-pub returns-then-b-lt4 : goal.returns-then-b-lt4
-returns-then-b-lt4 c =
+pub returns-in-0-to-3 : goal.returns-in-0-to-3
+returns-in-0-to-3 c =
     let a = c.args in
     let o = c.enter_few in
-    few-entry a.b a.r c.if-b-lt4.true c.requires.g_in_bounds.2 a.work.now a.g c.word.result c.word.ensures o.result.at o.result.rest o.ensures
+    few-entry a.b a.r (omega arith) c.requires.g_in_bounds.2 a.work.now a.g c.word.result c.word.ensures o.result.at o.result.rest o.ensures
 
 pub enter_fifth-requires-clause-g_in_bounds : goal.enter_fifth-requires-clause-g_in_bounds
 unfolding fact
-enter_fifth-requires-clause-g_in_bounds c = (c.requires.g_in_bounds.0, rw c.if-b-eq4.true at c.requires.g_in_bounds.2)
+enter_fifth-requires-clause-g_in_bounds c =
+    let e : c.args.b ≡ 4 = omega arith in
+    (c.requires.g_in_bounds.0, rw e at c.requires.g_in_bounds.2)
 
 pub enter_sixth-requires-clause-g_in_bounds : goal.enter_sixth-requires-clause-g_in_bounds
 unfolding fact
 enter_sixth-requires-clause-g_in_bounds c =
     let h = c.requires in
-    let e : c.args.b ≡ 5 = omega (arith, h.g_in_bounds.1, c.if-b-lt4.false, c.if-b-eq4.false) in
+    let e : c.args.b ≡ 5 = omega (arith, h.g_in_bounds.1) in
     (h.g_in_bounds.0, rw e at h.g_in_bounds.2)

@@ -1,8 +1,7 @@
 -- `steps::end::end_few` meets its contract: what is left of the word before is put.
 use mathlib.Core.Path.{refl}
 use native.Mathlib.Omega.{arith}
-use Rattle.rules.specs.declared.Kind.TheVariants.{E}
-use Rattle.steps.proofs.Hops.{touched-at}
+use Rattle.steps.specs.Stops.{ending}
 use Rattle.steps.proofs.EndingSets.{few-below, few-source, gone-exactly, put-bare}
 use Rattle.steps.proofs.end.end_few.Goals as goal
 
@@ -10,8 +9,8 @@ pub few_left-n-requires : goal.few_left-n-requires
 few_left-n-requires c =
     let g = c.args in
     let h = c.requires in record {
-      few = (touched-at g.stop h.given.sound E h.kind refl, h.count, c.legal-l.ensures.below);
-      by_index = few-below g.work.now g.g g.stop.step.count h.count c.before-w.result c.before-w.ensures (λ x l e. (h.given.sources x e).below);
+      few = (g.net.among, h.count, c.legal-l.ensures.below);
+      by_index = few-below g.work.now g.g g.net.count h.count c.before-w.result c.before-w.ensures (λ x l e. (h.given.sources x e).below);
     }
 
 pub returns : goal.returns
@@ -22,8 +21,8 @@ returns c =
     let w = c.before-w in
     let n = c.few_left-n in
     let p = c.put_word in
-    let o = few-source g.work.now g.g g.stop.step.count h.count g.stop.step.age l.result w.result n.result w.ensures n.ensures in record {
-      exactly = gone-exactly g.stop l.result h.given.sound h.kind l.ensures (omega arith) g.work.now g.g n.result p.new.work h.given.empty o
+    let o = few-source g.work.now g.g g.net.count h.count g.net.age l.result w.result n.result w.ensures n.ensures in record {
+      exactly = gone-exactly (ending g.net) l.result h.given.sound refl l.ensures (omega arith) g.work.now g.g n.result p.new.work h.given.empty o
           p.ensures;
       bare = put-bare g.work.now g.g 0 n.result p.new.work (omega arith) p.ensures h.given.empty n.ensures.below;
     }

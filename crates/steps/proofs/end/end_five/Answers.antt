@@ -1,8 +1,7 @@
 -- `steps::end::end_five` meets its contract: what is left of the five words before is put.
 use mathlib.Core.Path.{refl}
 use native.Mathlib.Omega.{arith}
-use Rattle.rules.specs.declared.Kind.TheVariants.{E}
-use Rattle.steps.proofs.Hops.{touched-at}
+use Rattle.steps.specs.Stops.{ending}
 use Rattle.steps.proofs.EndingSets.{put-bare}
 use Rattle.steps.proofs.EndingGaps.{legal-inside, five-exactly}
 use Rattle.steps.proofs.end.end_five.Goals as goal
@@ -12,7 +11,7 @@ five_left-n-requires c =
     let g = c.args in
     let h = c.requires in
     let l = c.legal-l in
-    (omega (arith, touched-at g.stop h.given.sound E h.kind refl), legal-inside _ _ l.result g.stop.streets.upper_few g.stop.streets.lower_few l.ensures)
+    (omega (arith, g.net.among), legal-inside _ _ l.result g.net.streets.upper_few g.net.streets.lower_few l.ensures)
 
 pub returns : goal.returns
 returns c =
@@ -22,7 +21,7 @@ returns c =
     let f = c.five_before-five in
     let n = c.five_left-n in
     let p = c.put_word in record {
-      exactly = five-exactly g.stop l.result h.given.sound h.kind l.ensures h.count g.work.now g.g f.result n.result p.new.work
+      exactly = five-exactly (ending g.net) l.result h.given.sound refl l.ensures h.count g.work.now g.g f.result n.result p.new.work
           f.ensures h.given.sources h.given.empty n.ensures p.ensures;
       bare = put-bare g.work.now g.g 0 n.result p.new.work (omega arith) p.ensures h.given.empty n.ensures.below;
     }

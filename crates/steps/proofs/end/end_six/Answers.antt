@@ -1,4 +1,5 @@
 -- `steps::end::end_six` meets its contract: the words that are left are put.
+use Rattle.steps.specs.Stops.{ending}
 use Rattle.steps.proofs.EndingGaps.{six-exactly, six-bare}
 use Rattle.steps.proofs.end.end_six.Goals as goal
 
@@ -8,6 +9,6 @@ returns c =
     let h = c.requires in
     let f = c.six_left-five in
     let p = c.put_five in record {
-      exactly = six-exactly g.work.now g.g f.result p.new.work p.ensures.changed g.stop h.given.empty f.ensures;
+      exactly = six-exactly g.work.now g.g f.result p.new.work p.ensures.changed (ending g.net) h.given.empty f.ensures;
       bare = six-bare g.work.now g.g f.result p.new.work p.ensures.changed h.given.empty p.result p.ensures.value;
     }

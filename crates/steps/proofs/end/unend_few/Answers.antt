@@ -1,4 +1,6 @@
 -- `steps::end::unend_few` meets its contract: what leads back is kept of the word.
+use mathlib.Core.Path.{refl}
+use Rattle.steps.specs.Stops.{ending}
 use Rattle.steps.proofs.EndingSets.{few-loses, next_word, marks-below}
 use Rattle.steps.proofs.end.unend_few.Goals as goal
 
@@ -10,5 +12,5 @@ returns c =
     let n = c.word-n in
     let z = c.few_back in
     let p = c.keep_word in
-    few-loses g.stop l.result h.given.sound h.kind l.ensures h.count g.work.now g.g (marks-below g.stop g.work.now g.g h.given.sources) n.result z.result
+    few-loses (ending g.net) l.result h.given.sound refl l.ensures h.count g.work.now g.g (marks-below (ending g.net) g.work.now g.g h.given.sources) n.result z.result
     (next_word g.work.now g.g 0 n.result n.ensures) z.ensures p.new.work p.ensures

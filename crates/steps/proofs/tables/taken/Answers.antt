@@ -1,10 +1,9 @@
--- `steps::tables::taken` meets its contract.
-use native.Mathlib.Omega.{arith}
-use Rattle.steps.proofs.EndingFive.{taken_in, taken_out}
+-- `steps::tables::taken` meets its contract: the test is of bit k of l.
+use Rattle.steps.proofs.EndingFive.{taken-bits, taken-le}
 use Rattle.steps.proofs.tables.taken.Goals as goal
 
-pub returns-then-l-k-eq1 : goal.returns-then-l-k-eq1
-returns-then-l-k-eq1 c = (taken_in c.args.l c.args.k c.args.w c.if-l-k-eq1.true, omega arith)
-
 pub returns : goal.returns
-returns c = (taken_out c.args.l c.args.k c.args.w c.if-l-k-eq1.false, omega arith)
+returns c =
+    let g = c.args in
+    let o = c.only in
+    (taken-bits g.l g.k g.w o.result o.ensures, taken-le g.l g.k g.w o.result o.ensures)

@@ -1,7 +1,7 @@
--- `steps::tables::Tables::without` meets its contract: what is left of all is left of one of the four pieces.
+-- `steps::tables::without` meets its contract: what is left of all is left of one of the four pieces.
 use Rattle.steps.proofs.FourSets.{left-none, left-all}
 use borrow.Author.Rules.{rules}
-use Rattle.steps.proofs.tables.Tables.without.Goals as goal
+use Rattle.steps.proofs.tables.without.Goals as goal
 
 pub returns-then-x-eq0 : goal.returns-then-x-eq0
 returns-then-x-eq0 c = left-none c.args.e c.args.x (search rules)

@@ -1,6 +1,6 @@
--- `steps::open::only` meets its contract: the test picks.
+-- `steps::word::only` meets its contract: the test picks.
 use Rattle.rules.specs.Basic.{pick}
-use Rattle.steps.proofs.open.only.Goals as goal
+use Rattle.steps.proofs.word.only.Goals as goal
 
 pub returns-then-t : goal.returns-then-t
 unfolding pick

@@ -1,7 +1,7 @@
--- `steps::tables::Tables::few_at` meets its contract: the places of b are those of four below the missing nets.
+-- `steps::tables::few_at` meets its contract: the places of b are those of four below the missing nets.
 use native.Mathlib.Omega.{arith}
 use Rattle.steps.proofs.EndingFew.{places-lt, few-stands}
-use Rattle.steps.proofs.tables.Tables.few_at.Goals as goal
+use Rattle.steps.proofs.tables.few_at.Goals as goal
 
 pub standing-requires : goal.standing-requires
 standing-requires c =

@@ -1,8 +1,8 @@
--- `steps::tables::Tables::five_at` meets its contract: the net is the youngest, or stands where the youngest pushes it to.
+-- `steps::tables::five_at` meets its contract: the net is the youngest, or stands where the youngest pushes it to.
 use native.Mathlib.Omega.{arith}
 use Rattle.steps.proofs.EndingFive.{pushed-lt}
 use Rattle.steps.proofs.Masks.{stands-first, stands-older}
-use Rattle.steps.proofs.tables.Tables.five_at.Goals as goal
+use Rattle.steps.proofs.tables.five_at.Goals as goal
 
 pub returns-then-a-eq0 : goal.returns-then-a-eq0
 returns-then-a-eq0 c =
