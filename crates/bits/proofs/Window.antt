@@ -10,8 +10,6 @@ use lib.Seq.{take_at, take-append-le, drop-append-le, take-append-add, drop-appe
 use lib.Arith.{digits_lt}
 use lib.Bits.{bit_and, and_mask}
 use lib.Pow.{pow_pos, pow-add, pow-lt, shr_lt}
-use borrow.Rule.Slice.PartMut.{put_mid}
-use Rattle.std.proofs.lemmas.Slice.{put_mid-paste}
 use Rattle.rules.specs.Bits.{bits, digits, val, pack, field}
 use Rattle.rules.proofs.Fields.{length_digits, length-pack, val-digits-mod, digits-rest, digits-join, digits-split, take-digits, drop-digits, pack-append, take-pack, drop-pack}
 use Rattle.bits.specs.Access.{Inside, Put}
@@ -244,8 +242,8 @@ three-laid s i x h =
     (ap₂ (λ (a b : List ℕ). a ++ b) (ap₂ (λ (a b : List ℕ). a ++ b) (sym (take-pack 8 i s)) (bits-bytes_of x))
     (sym (drop-pack 8 (i + 3) s) ∙ ap (λ (k : ℕ). drop k (bits s)) end))
 
-pub three-put : (s cells : List ℕ) (i x : ℕ) → i + 3 ≤ length s → cells ≡ bytes_of x → Put s (8 * i) 24 x (put_mid i (i + 3 - i) s cells)
-three-put s cells i x h e =
-    let three : 3 ≡ i + 3 - i = omega arith in
-    let stored : put_mid i (i + 3 - i) s cells ≡ sets s i (bytes_of x) = put_mid-paste i (i + 3 - i) s cells (bytes_of x) 3 e three refl ∙ sym (sets-eq (bytes_of x) s i h) in
+pub three-put : (s : List ℕ) (i x : ℕ) → i + 3 ≤ length s → x < 2 ^ 24 → Put s (8 * i) 24 x (set (set (set s i (x / 65536 % 256)) (i + 1) (x / 256 % 256)) (i + 2) (x % 256))
+three-put s i x h low =
+    let few : x / 65536 < 256 = omega arith in
+    let stored = sets-three s i (x / 65536) (x / 256 % 256) (x % 256) (ap (set s i) (mod-eq_of_lt few)) refl refl in
     record { laid = ap bits stored ∙ three-laid s i x h; kept = ap length stored ∙ length-sets s i (bytes_of x) }

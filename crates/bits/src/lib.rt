@@ -4,8 +4,18 @@
 
 ghost use Rattle.std.specs.Prelude.{◌≡◌, ◌+◌, ◌*◌, ◌/◌, ◌%◌, ◌^◌, ◌≤◌, ◌<◌, length, get_or, set};
 ghost use Rattle.std.proofs.lemmas.List.Edits.{sets};
+ghost use Rattle.rules.specs.Sheet.{size};
 ghost use Rattle.bits.specs.Access.{Inside, Got, Put};
 ghost use Rattle.bits.specs.Window.{Window, patched, bytes_of};
+
+// The bytes of a sheet of n nodes: 16 bits of head, six a node, and no byte more than they need.
+#[tactic(auto, unfolding(rules::specs::Sheet::size))]
+pub fn sheet_size(n: usize) -> usize
+    requires { n ≤ 512 }
+    ensures { result ≡ size n }
+{
+    2 + (3 * n + 3) / 4
+}
 
 // The number in the field of `width` bits that starts at bit `at` of the bytes, most significant first.
 pub fn get_bits(s: &[u8], at: usize, width: usize) -> u16
@@ -27,14 +37,18 @@ pub fn put_bits(buf: &mut [u8], at: usize, width: usize, value: u16)
     store_three(buf, at, patch(old, after, width, value));
 }
 
-// Writes a number of 24 bits over the three bytes from index i on.
+// Writes a number of 24 bits over the three bytes from index i on. Its bound is asked for here, in `patch` and in `store_three`: a type of 24 bits would be made and
+// taken apart at each of these calls.
 pub fn put_three(buf: &mut [u8], i: usize, x: u32)
     requires i_in_bounds { i + 3 ≤ length buf.old }
     requires x_bound { x < 2 ^ 24 }
     ensures { Put buf.old (8 * i) 24 x buf.new }
 {
     let [_, first, second, third] = x.to_be_bytes();
-    buf[i..i + 3].copy_from_slice(&[first, second, third]);
+    // Not by `store_three`, which tests each place: here all three are asked for.
+    buf[i] = first;
+    buf[i + 1] = second;
+    buf[i + 2] = third;
 }
 
 // The `width` bits of the number that stand above its low `after` bits.

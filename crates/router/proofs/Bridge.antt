@@ -26,10 +26,13 @@ use Rattle.rules.proofs.Legal.{New, Own}
 use Rattle.rules.proofs.Accepted.{nodes-own}
 use Rattle.rules.proofs.Failing.{passes-take}
 use Rattle.std.specs.Prelude.{IsTrue}
+use Rattle.steps.specs.declared.plan.Turn.{Turn}
+use Rattle.steps.specs.declared.plan.Turn.TheVariants.{Begins}
 use Rattle.steps.specs.declared.plan.Step.{Step}
-use Rattle.steps.specs.Plan.{step, touches, young, age, Steps, Tells}
-use Rattle.steps.specs.Ranks.{fact, order_of, at_of, less_of, hop_of, hops}
+use Rattle.steps.specs.Plan.{step, turn_kind, turn_age, touches, young, turn, Steps, Tells}
+use Rattle.steps.specs.Ranks.{fact, order_of, at_of, less_of, hop_by, hop_of, hops}
 use Rattle.steps.proofs.Hops.{hop-made}
+use Rattle.steps.proofs.Turns.{kind-turn}
 use Rattle.steps.proofs.Ranks.{Distinct, order-length, order-put, order-at, order-less}
 
 module _ (ku kl : ℕ) where
@@ -37,7 +40,7 @@ module _ (ku kl : ℕ) where
   abbrev Agree : Node → List ℕ → (r p : ℕ) → Type 0
   Agree n o r p =
       street_step ku kl n (order_of o r) (suc p)
-      ≡ Option.map (order_of (young n o)) (hop_of ku kl (step (kind n) (age n o) (length o)) r p)
+      ≡ Option.map (order_of (young n o)) (hop_of ku kl (step (turn n o) (length o)) r p)
 
   kept : {A C : Type 0} (f : A → C) (t t' : Bool) (a : A) (c : C) → t ≡ t' → (t ≡ true → c ≡ f a) → keep t c ≡ Option.map f (keep t' a)
   unfolding keep
@@ -45,7 +48,7 @@ module _ (ku kl : ℕ) where
   kept f false t' a c e h = rw (← e)
 
   begin-agrees : (x : ℕ) (o : List ℕ) (r p : ℕ) → r < fact (length o) → Agree (node B x) o r p
-  unfolding street_step stands next kind counted fits fits_at last limits_at young age hop_of
+  unfolding street_step stands next kind counted fits fits_at last limits_at young turn hop_by
   begin-agrees x o r p h =
       kept (order_of (x ∷ o)) (fits ku kl (suc p) (suc (length (order_of o r)))) (fits ku kl (suc p) (suc (length o))) (p * fact (length o) + r)
       (put (suc p - 1) x (order_of o r)) (ap (λ b. fits ku kl (suc p) (suc b)) (order-length o r))
@@ -66,13 +69,13 @@ module _ (ku kl : ℕ) where
       (eqb-suc-suc p (before x (order_of o r)) ∙ ap (eqb p) (stands_at x o r h d f)) (order-length o r)
 
   meet-agrees : (x : ℕ) (o : List ℕ) (r p : ℕ) → before x o < length o → Distinct o → r < fact (length o) → Agree (node M x) o r p
-  unfolding street_step stands next kind counted fits fits_at last limits_at young age hop_of
+  unfolding street_step stands next kind counted fits fits_at last limits_at young turn hop_by
   meet-agrees x o r p h d f =
       kept (order_of o) (eqb (suc p) (suc (before x (order_of o r))) && fits ku kl (suc p) (length (order_of o r)))
       (eqb p (at_of (before x o) (length o) r) && fits ku kl (suc p) (length o)) r (order_of o r) (touch x o r p h d f) (λ t. refl)
 
   end-agrees : (x : ℕ) (o : List ℕ) (r p : ℕ) → before x o < length o → Distinct o → r < fact (length o) → Agree (node E x) o r p
-  unfolding street_step stands next kind counted fits fits_at last limits_at young age hop_of
+  unfolding street_step stands next kind counted fits fits_at last limits_at young turn hop_by
   end-agrees x o r p h d f =
       kept (order_of (cut (before x o) o)) (eqb (suc p) (suc (before x (order_of o r))) && fits ku kl (suc p) (length (order_of o r)))
       (eqb p (at_of (before x o) (length o) r) && fits ku kl (suc p) (length o)) (less_of (before x o) (length o) r) (cut (suc p - 1) (order_of o r))
@@ -91,7 +94,7 @@ module _ (ku kl : ℕ) where
           ap (λ i. cut i (order_of o r)) k ∙ sym (order-less o (before x o) r h f)
 
   rest-agrees : (x : ℕ) (o : List ℕ) (r p : ℕ) → Agree (node N x) o r p
-  unfolding street_step stands next kind counted young age hop_of
+  unfolding street_step stands next kind counted young turn hop_by
   rest-agrees x o r p =
       kept (order_of o) (fits_at N ku kl (suc p) (length (order_of o r))) (fits_at N ku kl (suc p) (length o)) r (order_of o r)
       (ap (fits_at N ku kl (suc p)) (order-length o r)) (λ t. refl)
@@ -110,12 +113,12 @@ net : Node → ℕ
 net (node k x) = x
 
 -- what steps say of their first
-record First (b : ℕ) (k : Kind) (a c : ℕ) (ss : List Step) : Type 0 where
-  touched : IsTrue (touches k) → a < c
+record First (b : ℕ) (t : Turn) (c : ℕ) (ss : List Step) : Type 0 where
+  touched : IsTrue (touches (turn_kind t)) → turn_age t < c
   count : c ≡ b
-  rest : ((k ≡ B) × (b ≡ 6)) ⊎ Steps (left k b) ss
+  rest : ((turn_kind t ≡ B) × (b ≡ 6)) ⊎ Steps (left (turn_kind t) b) ss
 
-steps_first : {b : ℕ} {k : Kind} {a c : ℕ} {ss : List Step} → Steps b (step k a c ∷ ss) → First b k a c ss
+steps_first : {b : ℕ} {t : Turn} {c : ℕ} {ss : List Step} → Steps b (step t c ∷ ss) → First b t c ss
 unfolding left
 steps_first Steps.full = record { touched = λ t. absurd (cc); count = refl; rest = inl (refl, refl) }
 steps_first (Steps.begins h s) = record { touched = λ t. absurd (cc); count = refl; rest = inr s }
@@ -161,23 +164,23 @@ own-parts : {i : ℕ} {n : Node} {ns : List Node} → Own i (n ∷ ns) → (New 
 unfolding kind net
 own-parts (Own.cons h w) = (h, w)
 
-began-node : (i : ℕ) (n : Node) (o : List ℕ) → (New (kind n) → net n ≡ i) → Began i o → (IsTrue (touches (kind n)) → age n o < length o) → Began (suc i) (young n o)
-unfolding kind net age
+began-node : (i : ℕ) (n : Node) (o : List ℕ) → (New (kind n) → net n ≡ i) → Began i o → (IsTrue (touches (turn_kind (turn n o))) → turn_age (turn n o) < length o) → Began (suc i) (young n o)
+unfolding kind net turn
 began-node i (node B x) o own b t = began-next i B x o own b (λ z. absurd (cc))
 began-node i (node M x) o own b t = began-next i M x o own b t
 began-node i (node E x) o own b t = began-next i E x o own b t
 began-node i (node N x) o own b t = began-next i N x o own b (λ z. absurd (cc))
 
 module _ (ku kl : ℕ) (hu : ku ≤ 3) (hl : kl ≤ 3) where
-  agrees : (n : Node) (o : List ℕ) (r p : ℕ) → (IsTrue (touches (kind n)) → age n o < length o) → Distinct o → r < fact (length o) → Agree ku kl n o r p
-  unfolding kind age
+  agrees : (n : Node) (o : List ℕ) (r p : ℕ) → (IsTrue (touches (turn_kind (turn n o))) → turn_age (turn n o) < length o) → Distinct o → r < fact (length o) → Agree ku kl n o r p
+  unfolding kind turn
   agrees (node B x) o r p t d h = begin-agrees ku kl x o r p h
   agrees (node M x) o r p t d h = meet-agrees ku kl x o r p (t refl) d h
   agrees (node E x) o r p t d h = end-agrees ku kl x o r p (t refl) d h
   agrees (node N x) o r p t d h = rest-agrees ku kl x o r p
 
-  length-young : (n : Node) (o : List ℕ) → (IsTrue (touches (kind n)) → age n o < length o) → length (young n o) ≡ left (kind n) (length o)
-  unfolding young left kind age
+  length-young : (n : Node) (o : List ℕ) → (IsTrue (touches (turn_kind (turn n o))) → turn_age (turn n o) < length o) → length (young n o) ≡ left (turn_kind (turn n o)) (length o)
+  unfolding young left turn
   length-young (node B x) o t = refl
   length-young (node M x) o t = refl
   length-young (node E x) o t = omega (arith, length_cut (before x o) o (t refl))
@@ -194,20 +197,20 @@ module _ (ku kl : ℕ) (hu : ku ≤ 3) (hl : kl ≤ 3) where
           absurd (omega (arith, f.sum, order-length o r))
       go false q = refl
 
-  full-stays : (a r p : ℕ) → hop_of ku kl (step B a 6) r p ≡ none
-  unfolding hop_of keep
-  full-stays a r p = go (fits ku kl (suc p) 7) refl
+  full-stays : (r p : ℕ) → hop_of ku kl (step Begins 6) r p ≡ none
+  unfolding hop_by keep
+  full-stays r p = go (fits ku kl (suc p) 7) refl
     where
       go : (t : Bool) → fits ku kl (suc p) 7 ≡ t → keep t (p * fact 6 + r) ≡ none
       go true q = let f : Fits ku kl (suc p) 7 = fits→ ku kl (suc p) 7 (rw q tt) in absurd (omega (arith, f.sum))
       go false q = refl
 
   -- the steps after the first, which is not a B that finds six open
-  more-steps : (n : Node) (o : List ℕ) (ss : List Step) → (kind n ≡ B → length o < 6) → First (length o) (kind n) (age n o) (length o) ss → Steps (length (young n o)) ss
+  more-steps : (n : Node) (o : List ℕ) (ss : List Step) → (kind n ≡ B → length o < 6) → First (length o) (turn n o) (length o) ss → Steps (length (young n o)) ss
   more-steps n o ss e f = go f.rest
     where
-      go : ((kind n ≡ B) × (length o ≡ 6)) ⊎ Steps (left (kind n) (length o)) ss → Steps (length (young n o)) ss
-      go (inl q) = absurd (omega (arith, e q.0, q.1))
+      go : ((turn_kind (turn n o) ≡ B) × (length o ≡ 6)) ⊎ Steps (left (turn_kind (turn n o)) (length o)) ss → Steps (length (young n o)) ss
+      go (inl q) = absurd (omega (arith, e (sym (kind-turn n o) ∙ q.0), q.1))
       go (inr s) = rw (length-young n o f.touched) s
 
   -- a run of the first j nodes is a run of the first j steps
@@ -219,23 +222,23 @@ module _ (ku kl : ℕ) (hu : ku ≤ 3) (hl : kl ≤ 3) where
   run-hops (suc j) i Tells.nil s w b r h [] = refl
   run-hops (suc j) i Tells.nil s w b r h (p ∷ ps) = refl
   run-hops (suc j) i (Tells.full e l) s w b r h [] = refl
-  run-hops (suc j) i (Tells.full {x} {a} {o} {ns} {ss} e l) s w b r h (p ∷ ps) = rw (full-none x o r p e, full-stays a r p)
+  run-hops (suc j) i (Tells.full {x} {o} {ns} {ss} e l) s w b r h (p ∷ ps) = rw (full-none x o r p e, full-stays r p)
   run-hops (suc j) i (Tells.more e t) s w b r h [] = refl
   run-hops (suc j) i (Tells.more {n} {o} {ns} {ss} e t) s w b r h (p ∷ ps) =
       let f = steps_first s in
       let u = own-parts w in
       let s' : Steps (length (young n o)) ss = more-steps n o ss e f in
       rw (agrees n o r p f.touched b.once h)
-      (go (hop_of ku kl (step (kind n) (age n o) (length o)) r p) refl
+      (go (hop_of ku kl (step (turn n o) (length o)) r p) refl
       (λ y hy. run-hops j (suc i) t s' u.1 (began-node i n o u.0 b f.touched) y hy ps))
     where
-      below : (y : ℕ) → hop_of ku kl (step (kind n) (age n o) (length o)) r p ≡ some y → y < fact (length (young n o))
+      below : (y : ℕ) → hop_of ku kl (step (turn n o) (length o)) r p ≡ some y → y < fact (length (young n o))
       below y q =
           let f = steps_first s in
           rw (length-young n o f.touched)
-          ((hop-made ku kl (kind n) (age n o) (length o) r p y q).lands f.touched h)
+          ((hop-made ku kl (turn_kind (turn n o)) (turn_age (turn n o)) (length o) r p y q).lands f.touched h)
 
-      go : (x : Option ℕ) → hop_of ku kl (step (kind n) (age n o) (length o)) r p ≡ x
+      go : (x : Option ℕ) → hop_of ku kl (step (turn n o) (length o)) r p ≡ x
           → ((y : ℕ) → y < fact (length (young n o))
           → run ku kl (take j ns) (order_of (young n o) y) (map suc ps) ≡ Option.map (order_of (youngs (take j ns) (young n o))) (hops ku kl (take j ss) y ps))
           → and_then (Option.map (order_of (young n o)) x) (λ o'. run ku kl (take j ns) o' (map suc ps))

@@ -22,7 +22,7 @@ use Rattle.rules.proofs.Renamed.{Only, before-map, next_map, home-only}
 use Rattle.rules.proofs.Accepted.{length-nodes}
 use Rattle.std.specs.Prelude.{IsTrue}
 use Rattle.steps.specs.declared.plan.Step.{Step}
-use Rattle.steps.specs.Plan.{touches, Steps, Tells}
+use Rattle.steps.specs.Plan.{turn_kind, touches, Steps, Tells}
 use Rattle.orders.proofs.Nodes.{none}
 use Rattle.steps.specs.Ranks.{order_of, hop_of, hops}
 use Rattle.orders.proofs.Ways.{hops-start, hop-last}
@@ -60,10 +60,10 @@ unfolding last counted
 opened k b e = rw e (refl, refl)
 
 -- the kind of node i, where steps have the kinds of the nodes
-pub kind-told : (row : List ℕ) (ss : List Step) (i : ℕ) → i < length row → kinds ss ≡ map kind (nodes row) → (get_or ss i none).kind ≡ kind_at row i
+pub kind-told : (row : List ℕ) (ss : List Step) (i : ℕ) → i < length row → kinds ss ≡ map kind (nodes row) → turn_kind (get_or ss i none).turn ≡ kind_at row i
 unfolding nodes kind
 kind-told row ss i h told =
-    sym (get_or-map (λ (s : Step). s.kind) ss i none)
+    sym (get_or-map (λ (s : Step). turn_kind s.turn) ss i none)
     ∙ ap (λ (l : List Kind). get_or l i B) told
     ∙ get_or-map kind (nodes row) i (node B 0)
     ∙ ap kind (get_d_tabulate (node_at row) (length row) i (node B 0) h)

@@ -27,7 +27,7 @@ use Rattle.steps.specs.Sets.{Clear}
 use Rattle.orders.specs.Passes.{Given, First}
 use Rattle.script.proofs.Touched.{tells-steps}
 use Rattle.script.proofs.Passed.{plan-kinds}
-use Rattle.writer.specs.declared.entry.Entry.{Entry}
+use Rattle.writer.specs.Entries.{Entry}
 use Rattle.writer.specs.Entered.{Writing, listed}
 use Rattle.router.specs.Walk.{Planned, Entered, aboves}
 use Rattle.router.specs.Search.{Blocked}

@@ -11,7 +11,7 @@ use Rattle.std.specs.Prelude.{IsTrue, length}
 use Rattle.rules.specs.declared.Kind.TheVariants.{B, M, E, N}
 use Rattle.street.specs.Order.{capacity}
 use Rattle.steps.specs.declared.plan.Stop.{Stop}
-use Rattle.steps.specs.Plan.{touches}
+use Rattle.steps.specs.Plan.{turn_kind, turn_age, touches}
 use Rattle.steps.specs.Ranks.{at_of, less_of}
 use Rattle.steps.specs.Sets.{marked}
 use Rattle.orders.specs.Passes.{Entry}
@@ -25,7 +25,7 @@ less p = omega arith
 
 module _ (held : List ℕ) (t : Stop) (work : List ℕ) (g r x : ℕ) (w : Standing held t work g r x) where
   -- a new net
-  module _ (begins : t.step.kind ≡ B) (p y : ℕ) (e : Entry (marked work g) t.step.count r p y) where
+  module _ (begins : turn_kind t.step.turn ≡ B) (p y : ℕ) (e : Entry (marked work g) t.step.count r p y) where
     entered : Least t work g r p y
     entered = enters t work g r w.stop begins w.rank w.led p y e
 
@@ -38,7 +38,7 @@ module _ (held : List ℕ) (t : Stop) (work : List ℕ) (g r x : ℕ) (w : Stand
         record { least = entered; list = rw begins (l ∙ ap (λ (k : ℕ). put k x held) (sym (less p))) }
 
   -- a touched net
-  module _ (touched : IsTrue (touches t.step.kind)) where
+  module _ (touched : IsTrue (touches (turn_kind t.step.turn))) where
     stands : (w.onward.leads.at ≡ before x held) × (w.onward.leads.at < length held)
     stands = (w.placed w.onward.leads.at w.onward.next w.onward.leads.lands).stands touched
 
@@ -46,34 +46,34 @@ module _ (held : List ℕ) (t : Stop) (work : List ℕ) (g r x : ℕ) (w : Stand
     touched-open = omega (arith, stands.0, stands.1)
 
     -- the rank has the net where the order has it
-    pub located-found : {p : ℕ} → p ≡ at_of t.step.age t.step.count r → p ≡ before x held
+    pub located-found : {p : ℕ} → p ≡ at_of (turn_age t.step.turn) t.step.count r → p ≡ before x held
     located-found e = e ∙ sym (leads-at t work g r w.stop touched w.rank w.onward) ∙ stands.0
 
-    pub located-within : {p : ℕ} → p ≡ at_of t.step.age t.step.count r → p < length held
+    pub located-within : {p : ℕ} → p ≡ at_of (turn_age t.step.turn) t.step.count r → p < length held
     located-within e = omega (arith, located-found e, touched-open)
 
     module _ (p : ℕ) (found : p ≡ before x held) where
       at-found : p ≡ w.onward.leads.at
       at-found = found ∙ sym stands.0
 
-      pub met-stood : t.step.kind ≡ M → Stood held t work g r x p r held
+      pub met-stood : turn_kind t.step.turn ≡ M → Stood held t work g r x p r held
       unfolding next
       met-stood e =
           record {
-            least = stays t work g r w.stop touched w.rank w.onward p r at-found (after-touch t.step.kind t.step.age t.step.count r e);
+            least = stays t work g r w.stop touched w.rank w.onward p r at-found (after-touch (turn_kind t.step.turn) (turn_age t.step.turn) t.step.count r e);
             list = rw e;
           }
 
-      pub ended-stood : t.step.kind ≡ E → (y : ℕ) → y ≡ less_of t.step.age t.step.count r → (after : List ℕ) → after ≡ cut p held → Stood held t work g r x p y after
+      pub ended-stood : turn_kind t.step.turn ≡ E → (y : ℕ) → y ≡ less_of (turn_age t.step.turn) t.step.count r → (after : List ℕ) → after ≡ cut p held → Stood held t work g r x p y after
       unfolding next
       ended-stood e y l after c =
           record {
             least = stays t work g r w.stop touched w.rank w.onward p y at-found
-                (l ∙ after-end t.step.kind t.step.age t.step.count r e);
+                (l ∙ after-end (turn_kind t.step.turn) (turn_age t.step.turn) t.step.count r e);
             list = rw e (c ∙ ap (λ (k : ℕ). cut k held) (sym (less p)));
           }
 
   -- a blank
-  pub rested-stood : t.step.kind ≡ N → (p : ℕ) → p ≡ t.step.count - t.streets.lower → Stood held t work g r x p r held
+  pub rested-stood : turn_kind t.step.turn ≡ N → (p : ℕ) → p ≡ t.step.count - t.streets.lower → Stood held t work g r x p r held
   unfolding next
   rested-stood h p e = record { least = rests t work g r w.stop h w.onward p e; list = rw h refl }

@@ -3,7 +3,7 @@ use Rattle.std.specs.Prelude.{◌≡◌, List, ℕ, suc, ◌<◌, length, take, 
 use Rattle.steps.specs.declared.plan.Step.{Step}
 use Rattle.steps.specs.Sets.{Clear}
 use Rattle.orders.specs.Passes.{Passable}
-use Rattle.writer.specs.declared.entry.Entry.{Entry}
+use Rattle.writer.specs.Entries.{Entry}
 use Rattle.router.specs.Walk.{Entered}
 
 -- so many of the steps can be passed, and no more

@@ -4,24 +4,32 @@ use Rattle.std.proofs.Math.Option.{some}
 use Rattle.rules.specs.declared.Kind.{Kind}
 use Rattle.rules.specs.declared.Kind.TheVariants.{B}
 use Rattle.rules.specs.Row.{before, lone, node, nodes}
-use Rattle.rules.specs.Street.{next}
+use Rattle.rules.specs.Street.{kind, next}
 use Rattle.street.specs.Order.{capacity}
 use Rattle.steps.specs.declared.plan.Step.{Step}
 use Rattle.steps.specs.declared.plan.Stop.{Stop}
-use Rattle.steps.specs.Plan.{touches, Tells}
+use Rattle.steps.specs.Plan.{turn_kind, touches, Tells}
 use Rattle.steps.specs.Ranks.{fact}
 use Rattle.steps.specs.Sets.{stretch, marked}
 use Rattle.steps.specs.Stops.{hop_at, Sound}
 use Rattle.steps.specs.Leading.{Onward, Led, Least}
 use Rattle.script.specs.Told.{kinds}
-use Rattle.orders.specs.Passes.{First}
-use Rattle.writer.specs.declared.entry.Entry.{Entry}
+use Rattle.orders.specs.Passes.{Given, Kept, Passable, First}
+use Rattle.writer.specs.Entries.{Entry}
 
 -- steps tell the nodes of a row that has no lone label
 pub record Planned (row : List ℕ) (ss : List Step) : Type 0 where
   pub few : length row ≤ 512
   pub whole : (i : ℕ) → i < length row → lone row i ≡ false
   pub tells : Tells (nodes row) [] ss
+
+-- what the last pass is given: a row and its plan, whose nodes can all be passed, and the marks of the ranks through which they are
+pub record ToWalk (row : List ℕ) (ku kl : ℕ) (ss : List Step) (work : List ℕ) : Type 0 where
+  pub given : Given ss work
+  pub kept : Kept ku kl ss work
+  pub passable : Passable ku kl ss
+  pub planned : Planned row ss
+  pub told : kinds ss ≡ map kind (nodes row)
 
 -- at a node of this kind the net with label x can stand below p others of the order; nothing is asked of a blank
 pub record Placed (held : List ℕ) (k : Kind) (x p : ℕ) : Type 0 where
@@ -35,12 +43,12 @@ pub record Standing (held : List ℕ) (t : Stop) (work : List ℕ) (g r x : ℕ)
   pub rank : r < fact t.step.count
   pub onward : Onward t work g r
   pub led : (y : ℕ) → marked work g y ≡ true → Led t y
-  pub placed : (p y : ℕ) → hop_at t r p ≡ some y → Placed held t.step.kind x p
+  pub placed : (p y : ℕ) → hop_at t r p ≡ some y → Placed held (turn_kind t.step.turn) x p
 
 -- the least place that leads on and the rank there, and the order after the node
 pub record Stood (held : List ℕ) (t : Stop) (work : List ℕ) (g r x place rank : ℕ) (after : List ℕ) : Type 0 where
   pub least : Least t work g r place rank
-  pub list : after ≡ next (node t.step.kind x) held (suc place)
+  pub list : after ≡ next (node (turn_kind t.step.turn) x) held (suc place)
 
 -- the nets above each of these nodes
 abbrev pub aboves : List Entry → List ℕ

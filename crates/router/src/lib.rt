@@ -11,14 +11,15 @@ ghost use Rattle.rules.proofs.Demand3.{Fit};
 ghost use Rattle.steps.specs.Plan.{Tells};
 ghost use Rattle.router.specs.Routed.{Routed, Laid};
 
+use bits::sheet_size;
 use rules::{Kind, RouteError, Routing, Streets};
 use script::labels::Labels;
 use script::plan::tell;
 use search::search;
-use steps::plan::Step;
+use steps::plan::{Step, Turn};
 use streets::streets_of;
 use writer::entry::Entry;
-use writer::{sheet_size, write_sheet};
+use writer::write_sheet;
 
 // Routes a row under Ku and Kl tracks. The row is read only. Work takes 90 bytes a node and is zero there afterwards, where the search was made; the sheet
 // stands at the start of its buffer. Every refusal leaves the sheet's buffer as it was, and those before the search leave work too.
@@ -34,18 +35,14 @@ pub fn route(row: &[u8], ku: u8, kl: u8, work: &mut [u8], sheet: &mut [u8]) -> R
     route_between(row, streets, work, sheet)
 }
 
-// Checks 3 to 6 of a row of 2 to 512 nodes.
+// Checks 3 to 6 of a row of 2 to 512 nodes. The buffers are those that the caller of `route` lends, and go on as they are.
 fn route_between(row: &[u8], streets: Streets, work: &mut [u8], sheet: &mut [u8]) -> Routing
     requires { (2 ≤ length row.now) × (length row.now ≤ 512) }
     ensures { Routed row.now streets.upper streets.lower work.old sheet.old result work.new sheet.new }
 {
     let n = row.len();
-    let mut labels = Labels {
-        first: [0; 256],
-        last: [0; 256],
-    };
-    labels.scan(row);
-    if let Some(alone) = labels.lone(row) {
+    let labels = Labels::of(row);
+    if let Some(alone) = labels.lone() {
         return Err(RouteError::Lone(alone + 1));
     }
     if work.len() < 90 * n {
@@ -54,12 +51,12 @@ fn route_between(row: &[u8], streets: Streets, work: &mut [u8], sheet: &mut [u8]
     if sheet.len() < sheet_size(n) {
         return Err(RouteError::SheetShort);
     }
+    // A step for each node that a row can have: there is no heap.
     let mut plan = [Step {
-        kind: Kind::B,
-        age: 0,
+        turn: Turn::Begins,
         count: 0,
     }; 512];
-    tell(row, &labels, &mut plan);
+    tell(&labels, &mut plan);
     lay(row, &plan[..n], streets, work, sheet)
 }
 
@@ -71,10 +68,8 @@ fn lay(row: &[u8], plan: &[Step], streets: Streets, work: &mut [u8], sheet: &mut
 {
     let n = row.len();
     let room = 90 * n;
-    let mut entries = [Entry {
-        kind: Kind::B,
-        above: 0,
-    }; 512];
+    // An entry for each node that a row can have: there is no heap.
+    let mut entries = [Entry::new(Kind::B, 0); 512];
     if let Err(passed) = search(row, &mut work[..room], plan, streets, &mut entries) {
         return Err(RouteError::Stuck(passed + 1));
     }

@@ -9,11 +9,11 @@ use orders::pass::{forward, prune};
 use orders::set::wipe;
 use rules::Streets;
 use steps::plan::Step;
-use steps::tables::Tables;
 use writer::entry::Entry;
 
 // Searches a row by its plan in lent bytes, which are clear afterwards, whatever stood there. Where all nodes can be passed their entries are those of the first way
-// through them; else it tells how many can.
+// through them; else the error is how many can, which forward counts.
+// Row, work, plan, streets and entries go from `lay` on to `walk` as they are: a struct of them would be made and taken apart at each one call.
 pub fn search(
     row: &[u8],
     work: &mut [u8],
@@ -25,11 +25,10 @@ pub fn search(
     requires planned { Planned row.now plan.now }
     ensures { Searched streets.upper streets.lower plan.now work.old work.new result entries.new }
 {
-    let tables = Tables::new();
-    let passed = forward(work, plan, streets, tables);
+    let passed = forward(work, plan, streets);
     if passed.is_ok() {
-        prune(work, plan, streets, tables);
-        walk(row, work, plan, streets, tables, entries);
+        prune(work, plan, streets);
+        walk(row, work, plan, streets, entries);
     }
     wipe(work);
     passed

@@ -10,7 +10,8 @@ use Rattle.rules.specs.Basic.{pick, cut}
 use Rattle.rules.specs.declared.Kind.TheVariants.{B, M, E, N}
 use Rattle.rules.specs.Row.{before, kind_of}
 use Rattle.street.specs.Order.{capacity}
-use Rattle.steps.specs.Plan.{step, touches, young, age}
+use Rattle.steps.specs.declared.plan.Turn.TheVariants.{Begins, Meets, Ends, Rests}
+use Rattle.steps.specs.Plan.{step, touches, young, turn}
 use Rattle.script.specs.Told.{kind_by, Turned}
 
 module _ (x first last i : ℕ) where
@@ -40,18 +41,18 @@ module _ (x first last i : ℕ) where
         go (no m) = rw (meets n m) refl
 
 module _ (o : List ℕ) (x : ℕ) where
-  pub turned-rest : Turned o N x (step N 0 (length o)) o
-  unfolding young age
+  pub turned-rest : Turned o N x (step Rests (length o)) o
+  unfolding young turn
   turned-rest = record { is = refl; list = refl; room = λ e. absurd (cc) }
 
-  pub turned-begun : length o < capacity → Turned o B x (step B 0 (length o)) (x ∷ o)
-  unfolding young age
+  pub turned-begun : length o < capacity → Turned o B x (step Begins (length o)) (x ∷ o)
+  unfolding young turn
   turned-begun h = record { is = refl; list = refl; room = λ e. h }
 
-  pub turned-met : Turned o M x (step M (before x o) (length o)) o
-  unfolding young age
+  pub turned-met : Turned o M x (step (Meets (before x o)) (length o)) o
+  unfolding young turn
   turned-met = record { is = refl; list = refl; room = λ e. absurd (cc) }
 
-  pub turned-ended : Turned o E x (step E (before x o) (length o)) (cut (before x o) o)
-  unfolding young age
+  pub turned-ended : Turned o E x (step (Ends (before x o)) (length o)) (cut (before x o) o)
+  unfolding young turn
   turned-ended = record { is = refl; list = refl; room = λ e. absurd (cc) }

@@ -6,7 +6,7 @@ use mathlib.Core.List.{List, [], ◌∷◌, ◌++◌, append-nil}
 use Prim.Native.Nat.{ℕ, zero, suc, ◌+◌, ◌-◌, ◌≤◌, ◌<◌}
 use native.Mathlib.Decide.{ℕ_discrete, dec_lt}
 use native.Mathlib.Omega.{arith}
-use lib.ListN.{length, get_or, take, drop, set, length-set, length-append, length-drop}
+use lib.ListN.{length, get_or, get_or-eq_default, take, drop, set, length-set, length-append, length-drop}
 use lib.Seq.{append_snoc, get_or-append_seam, get_or-set_same, get_or-set_other, get_or-take, length-take-le}
 use lib.Dec.{eqb, ltb}
 use borrow.Author.Tests.{eqb-true, eqb-false, eq-eqb, ne_eqb, ltb-true, ltb-false}
@@ -19,7 +19,6 @@ use Rattle.rules.specs.Answers.{first_lone}
 use Rattle.rules.proofs.Pins.{before-found, home-le, label-home}
 use Rattle.rules.proofs.Least.{least-le, least-holds, least-before}
 use Rattle.rules.proofs.Open.{later-ahead, ahead-later}
-use Rattle.script.specs.declared.labels.Labels.{Labels}
 use Rattle.script.specs.Tabled.{noted, Firsts, Tabled, alone, Apart, lone_label}
 
 -- ---- a node writes its number
@@ -88,52 +87,57 @@ firsts-home row table f i h =
     omega (arith, pos, low, e, g, f.from (home row i) (omega arith) (omega (arith, home-le row i h)))
 
 -- the nodes that are left of a row, where the table holds the first nodes among the others
-pub record FirstsBehind (row left table : List ℕ) : Type 0 where
+pub record FirstsBehind (row left : List ℕ) (count : ℕ) (table : List ℕ) : Type 0 where
   pub passed : List ℕ
   pub joined : left ++ passed ≡ row
+  pub counted : count ≡ 0
   pub firsts : Firsts row (length left) table
 
-pub behind-none : (row table : List ℕ) → length table ≡ 256 → FirstsBehind row row table
-behind-none row table cells = record { passed = []; joined = append-nil row; firsts = firsts-none row table cells }
+pub behind-none : (row left table : List ℕ) (count : ℕ) → left ≡ row → count ≡ 0 → length table ≡ 256 → FirstsBehind row left count table
+behind-none row left table count e n cells =
+    record { passed = []; joined = append-nil left ∙ e; counted = n; firsts = rw e (firsts-none row table cells) }
 
 -- the last of them writes its number
-pub behind-more : (row left table : List ℕ) → FirstsBehind row left table → (before : List ℕ) (x : ℕ) → left ≡ before ++ (x ∷ []) → x < 256
-    → FirstsBehind row before (set table x (length left))
-behind-more row left table f before x e byte =
+pub behind-more : (row left table : List ℕ) (count : ℕ) → FirstsBehind row left count table
+    → (before : List ℕ) (x i count' : ℕ) → left ≡ before ++ (x ∷ []) → x < 256 → i ≡ count + length before → count' ≡ count
+    → FirstsBehind row before count' (set table x (i + 1))
+behind-more row left table count f before x i count' e byte is same =
     let whole : before ++ (x ∷ f.passed) ≡ row = sym (append_snoc before x f.passed) ∙ ap (λ (l : List ℕ). l ++ f.passed) (sym e) ∙ f.joined in
     let own : get_or row (length before) 0 ≡ x = ap (λ (l : List ℕ). get_or l (length before) 0) (sym whole) ∙ get_or-append_seam before x f.passed 0 in
     let long : length left ≡ suc (length before) = omega (arith, ap length e, length-append before (x ∷ [])) in
+    let node : i + 1 ≡ suc (length before) = omega (arith, f.counted) in
     record {
       passed = x ∷ f.passed;
       joined = whole;
-      firsts = rw (long, ← own) (firsts_more row table (length before) (omega arith) (rw long at f.firsts));
+      counted = same ∙ f.counted;
+      firsts = rw (node, ← own) (firsts_more row table (length before) (omega arith) (rw long at f.firsts));
     }
 
 -- ---- what the tables tell of a node
 
-module _ (row : List ℕ) (labels : Labels) (t : Tabled row labels) (i : ℕ) (h : i < length row) where
-  pub begins-here : eqb (noted row labels.first i) (suc i) ≡ eqb (home row i) i
+module _ (row first last : List ℕ) (t : Tabled row first last) (i : ℕ) (h : i < length row) where
+  pub begins-here : eqb (noted row first i) (suc i) ≡ eqb (home row i) i
   begins-here = go (ℕ_discrete (home row i) i)
     where
-      go : Dec (home row i ≡ i) → eqb (noted row labels.first i) (suc i) ≡ eqb (home row i) i
-      go (yes e) = eq-eqb (noted row labels.first i) (suc i) (t.begins i h ∙ ap suc e) ∙ sym (eq-eqb (home row i) i e)
-      go (no n) = ne_eqb (noted row labels.first i) (suc i) (λ e. n (omega (arith, t.begins i h))) ∙ sym (ne_eqb (home row i) i n)
+      go : Dec (home row i ≡ i) → eqb (noted row first i) (suc i) ≡ eqb (home row i) i
+      go (yes e) = eq-eqb (noted row first i) (suc i) (t.begins i h ∙ ap suc e) ∙ sym (eq-eqb (home row i) i e)
+      go (no n) = ne_eqb (noted row first i) (suc i) (λ e. n (omega (arith, t.begins i h))) ∙ sym (ne_eqb (home row i) i n)
 
   -- a later node is in the net exactly where the last is another
-  pub later-not-last : later row i ≡ not (eqb (noted row labels.last i) (suc i))
-  later-not-last = go (later row i) (eqb (noted row labels.last i) (suc i)) refl refl
+  pub later-not-last : later row i ≡ not (eqb (noted row last i) (suc i))
+  later-not-last = go (later row i) (eqb (noted row last i) (suc i)) refl refl
     where
-      go : (b e : Bool) → later row i ≡ b → eqb (noted row labels.last i) (suc i) ≡ e → b ≡ not e
+      go : (b e : Bool) → later row i ≡ b → eqb (noted row last i) (suc i) ≡ e → b ≡ not e
       go true true q p =
           let a = later-ahead row i q in
-          let same : noted row labels.last a.at ≡ noted row labels.last i = ap (λ (x : ℕ). get_or labels.last x 0) a.label in
-          absurd (omega (arith, t.lasts.upto a.at a.within, a.from, eqb-true (noted row labels.last i) (suc i) p))
+          let same : noted row last a.at ≡ noted row last i = ap (λ (x : ℕ). get_or last x 0) a.label in
+          absurd (omega (arith, t.lasts.upto a.at a.within, a.from, eqb-true (noted row last i) (suc i) p))
       go true false q p = refl
       go false true q p = refl
       go false false q p =
-          let on : suc i < noted row labels.last i = omega (arith, t.lasts.upto i h, eqb-false (noted row labels.last i) (suc i) p) in
+          let on : suc i < noted row last i = omega (arith, t.lasts.upto i h, eqb-false (noted row last i) (suc i) p) in
           sym q ∙ ahead-later row i
-          (record { at = noted row labels.last i - 1; from = omega arith; within = omega (arith, t.lasts.within i h); label = t.lasts.same i h })
+          (record { at = noted row last i - 1; from = omega arith; within = omega (arith, t.lasts.within i h); label = t.lasts.same i h })
 
   -- a blank is not lone
   pub blank-not-lone : get_or row i 0 ≡ 255 → lone row i ≡ false
@@ -141,18 +145,18 @@ module _ (row : List ℕ) (labels : Labels) (t : Tabled row labels) (i : ℕ) (h
   blank-not-lone e = rw (eq-eqb (get_or row i 0) 255 e) refl
 
   -- another node is lone exactly where its net's first and last node are one
-  pub lone-one : (get_or row i 0 ≡ 255 → ⊥) → lone row i ≡ eqb (noted row labels.first i) (noted row labels.last i)
+  pub lone-one : (get_or row i 0 ≡ 255 → ⊥) → lone row i ≡ eqb (noted row first i) (noted row last i)
   unfolding lone blank
   lone-one n =
       ap (λ (t : Bool). not t && eqb (home row i) i && not (later row i)) (ne_eqb (get_or row i 0) 255 n)
       ∙ ap₂ (λ (a b : Bool). a && not b) (sym begins-here) later-not-last
-      ∙ go (ℕ_discrete (noted row labels.first i) (suc i)) (ℕ_discrete (noted row labels.last i) (suc i))
+      ∙ go (ℕ_discrete (noted row first i) (suc i)) (ℕ_discrete (noted row last i) (suc i))
     where
       f : ℕ
-      f = noted row labels.first i
+      f = noted row first i
 
       l : ℕ
-      l = noted row labels.last i
+      l = noted row last i
 
       go : Dec (f ≡ suc i) → Dec (l ≡ suc i) → (eqb f (suc i) && not (not (eqb l (suc i)))) ≡ eqb f l
       go (yes p) (yes q) = rw (eq-eqb f (suc i) p, eq-eqb l (suc i) q) (sym (eq-eqb f l (p ∙ sym q)))
@@ -179,25 +183,25 @@ least-is f n i h yep nope = go (ℕ_discrete (least f n) i)
     go (yes e) = e
     go (no d) = absurd (order d (dec_lt (least f n) i))
 
-module _ (row : List ℕ) (labels : Labels) (t : Tabled row labels) where
-  lone-by_label : (i : ℕ) → i < length row → lone row i ≡ lone_label labels (get_or row i 0)
+module _ (row first last : List ℕ) (t : Tabled row first last) where
+  lone-by_label : (i : ℕ) → i < length row → lone row i ≡ lone_label first last (get_or row i 0)
   lone-by_label i h = go (ℕ_discrete (get_or row i 0) 255)
     where
-      go : Dec (get_or row i 0 ≡ 255) → lone row i ≡ lone_label labels (get_or row i 0)
-      go (yes e) = blank-not-lone row labels t i h e ∙ sym (rw (eq-eqb (get_or row i 0) 255 e) refl)
-      go (no n) = lone-one row labels t i h n ∙ sym (rw (ne_eqb (get_or row i 0) 255 n) refl)
+      go : Dec (get_or row i 0 ≡ 255) → lone row i ≡ lone_label first last (get_or row i 0)
+      go (yes e) = blank-not-lone row first last t i h e ∙ sym (rw (eq-eqb (get_or row i 0) 255 e) refl)
+      go (no n) = lone-one row first last t i h n ∙ sym (rw (ne_eqb (get_or row i 0) 255 n) refl)
 
-  first_by_label : position_or_len (lone_label labels) row ≡ first_lone row
+  first_by_label : position_or_len (lone_label first last) row ≡ first_lone row
   unfolding first_lone
   first_by_label =
       let n = length row in
       let low = least-le (lone row) n in
-      position_or_len_is (lone_label labels) row (least (lone row) n) 0 low
+      position_or_len_is (lone_label first last) row (least (lone row) n) 0 low
       (λ k h. sym (lone-by_label k (omega arith)) ∙ least-before (lone row) n k h)
       (λ h. sym (lone-by_label (least (lone row) n) h) ∙ least-holds (lone row) n h)
 
   -- the first place at which it is so is the first lone node
-  pub found-lone : (r : Option ℕ) → r ≡ position (lone_label labels) row
+  pub found-lone : (r : Option ℕ) → r ≡ position (lone_label first last) row
       → (IsNone r → first_lone row ≡ length row) × IfSome r (λ i. (i < length row) × (first_lone row ≡ i))
   unfolding first_lone
   found-lone r e = rw (e, first_by_label) (go (ltb (first_lone row) (length row)) refl)
@@ -217,18 +221,26 @@ alone-not f l h e = go (eqb f l) (rw (ne_eqb f 0 (λ z. omega arith)) at e)
     go true z = absurd (omega arith)
     go false z = refl
 
+-- a node's label has its entry
+label-low : (row first last : List ℕ) → Tabled row first last → (i : ℕ) → i < length row → get_or row i 0 < 256
+label-low row first last t i h = go (dec_lt (get_or row i 0) 256)
+  where
+    go : Dec (get_or row i 0 < 256) → get_or row i 0 < 256
+    go (yes l) = l
+    go (no n) = absurd (omega (arith, t.begins i h, get_or-eq_default first 0 {n = get_or row i 0} (omega (arith, t.firsts))))
+
 -- where no label of a net has one node only no node is lone
-pub apart_none : (row : List ℕ) (labels : Labels) → Tabled row labels → ((i : ℕ) → get_or row i 0 < 256) → Apart labels.first labels.last 255
+pub apart_none : (row first last : List ℕ) → Tabled row first last → Apart first last 255
     → first_lone row ≡ length row
 unfolding first_lone
-apart_none row labels t byte a =
+apart_none row first last t a =
     least-is (lone row) (length row) (length row) (omega arith) (λ b. absurd (omega arith)) (λ j h. go j h (ℕ_discrete (get_or row j 0) 255))
   where
     go : (j : ℕ) → j < length row → Dec (get_or row j 0 ≡ 255) → lone row j ≡ false
-    go j h (yes e) = blank-not-lone row labels t j h e
+    go j h (yes e) = blank-not-lone row first last t j h e
     go j h (no n) =
-        lone-one row labels t j h n
-        ∙ alone-not (noted row labels.first j) (noted row labels.last j) (omega (arith, t.begins j h)) (a (get_or row j 0) (omega (arith, byte j)))
+        lone-one row first last t j h n
+        ∙ alone-not (noted row first j) (noted row last j) (omega (arith, t.begins j h)) (a (get_or row j 0) (omega (arith, label-low row first last t j h)))
 
 -- ---- the labels gone through, of which none is lone while nothing is counted
 

@@ -1,5 +1,5 @@
 -- Where a run gets through a row, the plan holds the kind of each of its nodes.
-use mathlib.Core.Path.{◌≡◌, refl, ap}
+use mathlib.Core.Path.{ap₂, ◌≡◌, refl}
 use mathlib.Core.List.{List, [], ◌∷◌, map}
 use mathlib.Core.Option.{some}
 use Prim.Native.Nat.{ℕ, suc, ◌+◌, ◌-◌, ◌≤◌, ◌<◌}
@@ -15,6 +15,7 @@ use Rattle.rules.proofs.Open.{onto}
 use Rattle.steps.specs.declared.plan.Step.{Step}
 use Rattle.steps.specs.Plan.{young, Tells}
 use Rattle.script.specs.Told.{kinds}
+use Rattle.steps.proofs.Turns.{kind-turn}
 use Rattle.script.proofs.Touched.{Kept, kept-none, kept_next, node-open, From, from-nodes}
 
 module _ (row : List ℕ) (ku kl : ℕ) (six : ku + kl ≤ 6) where
@@ -40,7 +41,7 @@ module _ (row : List ℕ) (ku kl : ℕ) (six : ku + kl ≤ 6) where
   same-kinds (From.cons {i} {n} {ns} h q f) kept (Tells.more {o = y} room t) o (p ∷ ps) w e r =
       let a = onto ku kl n ns o p ps w r in
       let kept' : Kept row (suc i) (young n y) = rw q (kept_next row i h y kept) in
-      ap {B = List Kind} (λ l. kind n ∷ l) (same-kinds f kept' t (next n o p) ps w (as_many i h n y o p q kept e a.fitted) a.rest)
+      ap₂ (λ (k : Kind) (l : List Kind). k ∷ l) (kind-turn n y) (same-kinds f kept' t (next n o p) ps w (as_many i h n y o p q kept e a.fitted) a.rest)
 
   -- the plan's kinds are those of the nodes, if a run gets through them in streets that hold six
   pub plan-kinds : (ss : List Step) (ps w : List ℕ) → Tells (nodes row) [] ss → run ku kl (nodes row) [] ps ≡ some w → kinds ss ≡ map kind (nodes row)

@@ -1,4 +1,4 @@
--- Nets under other names: a net has the age, and leaves the young ones, that it has and leaves under its own name.
+-- Nets under other names: a node has the turn, and leaves the young ones, that it has and leaves under the net's own name.
 use mathlib.Core.Path.{◌≡◌, refl, ap, ◌∙◌}
 use mathlib.Core.List.{List, map}
 use Prim.Native.Nat.{ℕ}
@@ -7,15 +7,16 @@ use Rattle.rules.specs.declared.Kind.{Kind}
 use Rattle.rules.specs.declared.Kind.TheVariants.{B, M, E, N}
 use Rattle.rules.specs.Row.{before, node}
 use Rattle.rules.proofs.Renamed.{cut-map, before-map, Only}
-use Rattle.steps.specs.Plan.{young, age}
+use Rattle.steps.specs.declared.plan.Turn.TheVariants.{Meets, Ends}
+use Rattle.steps.specs.Plan.{young, turn}
 
 module _ (f : ℕ → ℕ) (x : ℕ) (only : Only f x) where
-  pub age-map : (k : Kind) (l : List ℕ) → age (node k (f x)) (map f l) ≡ age (node k x) l
-  unfolding age
-  age-map B l = refl
-  age-map M l = before-map f x only l
-  age-map E l = before-map f x only l
-  age-map N l = refl
+  pub turn-map : (k : Kind) (l : List ℕ) → turn (node k (f x)) (map f l) ≡ turn (node k x) l
+  unfolding turn
+  turn-map B l = refl
+  turn-map M l = ap Meets (before-map f x only l)
+  turn-map E l = ap Ends (before-map f x only l)
+  turn-map N l = refl
 
   pub young-map : (k : Kind) (l : List ℕ) → young (node k (f x)) (map f l) ≡ map f (young (node k x) l)
   unfolding young

@@ -16,15 +16,16 @@ use Rattle.rules.specs.Row.{before, blank, home, later, Node, node, node_at, nod
 use Rattle.rules.specs.Street.{kind}
 use Rattle.rules.proofs.Pins.{length-tabulate, get_d_tabulate, before-found, home-le}
 use Rattle.rules.proofs.Fields.{below-mono}
+use Rattle.steps.specs.declared.plan.Turn.{Turn}
+use Rattle.steps.specs.declared.plan.Turn.TheVariants.{Begins}
 use Rattle.steps.specs.declared.plan.Step.{Step}
-use Rattle.steps.specs.Plan.{step, touches, young, age, Tells}
-use Rattle.script.specs.declared.labels.Labels.{Labels}
+use Rattle.steps.specs.Plan.{step, touches, young, turn, Tells}
 use Rattle.script.specs.Tabled.{noted, Tabled}
 use Rattle.script.specs.Told.{kind_by, Turning, Turned, Full, Told}
 use Rattle.std.specs.Prelude.{IsTrue}
 use Rattle.script.proofs.Noting.{apart, begins-here, later-not-last}
 use Rattle.rules.proofs.Renamed.{home-only, before-map}
-use Rattle.script.proofs.Renaming.{age-map, young-map}
+use Rattle.script.proofs.Renaming.{turn-map, young-map}
 use Rattle.script.proofs.Touched.{by_home, Kept, kept-none, kept_next, touched-open}
 
 -- ---- nodes one by one
@@ -49,20 +50,20 @@ rest row i h =
 
 module _ (row : List ℕ) (done : List Step) (i : ℕ) (o : List ℕ) (g : Going row done i o) where
   going_more : i < length row → (kind (node_at row i) ≡ B → length o < 6)
-      → Going row (done ++ (step (kind (node_at row i)) (age (node_at row i) o) (length o) ∷ [])) (suc i) (young (node_at row i) o)
+      → Going row (done ++ (step (turn (node_at row i) o) (length o) ∷ [])) (suc i) (young (node_at row i) o)
   going_more h room =
-      let s : Step = step (kind (node_at row i)) (age (node_at row i) o) (length o) in
+      let s : Step = step (turn (node_at row i) o) (length o) in
       record {
         kept = kept_next row i h o g.kept;
         goes = λ ss t. rw (append_snoc done s ss) (g.goes (s ∷ ss) (rw (rest row i h) (Tells.more room t)));
       }
 
-  going-full : i < length row → kind (node_at row i) ≡ B → length o ≡ 6 → (a : ℕ) (ss : List Step) → length ss ≡ length row - suc i
-      → Tells (nodes row) [] (done ++ (step B a 6 ∷ ss))
+  going-full : i < length row → kind (node_at row i) ≡ B → length o ≡ 6 → (ss : List Step) → length ss ≡ length row - suc i
+      → Tells (nodes row) [] (done ++ (step Begins 6 ∷ ss))
   unfolding kind
-  going-full h b six a ss n = g.goes (step B a 6 ∷ ss) (rw (rest row i h) (last (node_at row i) b))
+  going-full h b six ss n = g.goes (step Begins 6 ∷ ss) (rw (rest row i h) (last (node_at row i) b))
     where
-      last : (m : Node) → kind m ≡ B → Tells (m ∷ drop (suc i) (nodes row)) o (step B a 6 ∷ ss)
+      last : (m : Node) → kind m ≡ B → Tells (m ∷ drop (suc i) (nodes row)) o (step Begins 6 ∷ ss)
       last (node k x) e = rw e (Tells.full {ns = drop (suc i) (nodes row)} {ss = ss} six (omega (arith, length-drop (suc i) (nodes row), length-nodes row)))
 
   going_end : i ≡ length row → Tells (nodes row) [] done
@@ -100,7 +101,7 @@ unfolding before pick
 above-absent x nil = omega arith
 above-absent x (cons {x = y} b r) = rw (ne_eqb y x (λ e. omega arith)) (omega (arith, above-absent x r))
 
-module _ (row : List ℕ) (labels : Labels) (plan : List Step) (l : List ℕ) (i : ℕ) (tabled : Tabled row labels) (few : length row ≤ 512)
+module _ (row first last : List ℕ) (plan : List Step) (l : List ℕ) (i : ℕ) (tabled : Tabled row first last) (few : length row ≤ 512)
     (t : Telling row plan l i) (h : i < length row) where
   x : ℕ
   x = get_or row i 0
@@ -109,18 +110,18 @@ module _ (row : List ℕ) (labels : Labels) (plan : List Step) (l : List ℕ) (i
   o = homes row l
 
   k : Kind
-  k = kind_by x (noted row labels.first i) (noted row labels.last i) (suc i)
+  k = kind_by x (noted row first i) (noted row last i) (suc i)
 
   kind-told : k ≡ kind (node_at row i)
   unfolding k x kind_by blank node_at pick kind
   kind-told = go (blank row i)
     where
       go : (t : Bool)
-          → pick t N (kind_of (eqb (noted row labels.first i) (suc i)) (not (eqb (noted row labels.last i) (suc i))))
+          → pick t N (kind_of (eqb (noted row first i) (suc i)) (not (eqb (noted row last i) (suc i))))
           ≡ kind (pick t (node N i) (node (kind_of (eqb (home row i) i) (later row i)) (home row i)))
       go true = refl
       go false =
-          ap₂ (λ (b l : Bool). kind_of b l) (begins-here row labels tabled i h) (sym (later-not-last row labels tabled i h))
+          ap₂ (λ (b l : Bool). kind_of b l) (begins-here row first last tabled i h) (sym (later-not-last row first last tabled i h))
 
   only : (y : ℕ) → before y row ≡ before x row → y ≡ x
   unfolding x
@@ -153,7 +154,7 @@ module _ (row : List ℕ) (labels : Labels) (plan : List Step) (l : List ℕ) (i
       go false false p q e z = touched-open row i h o t.going.kept p q
 
   -- what a node asks of the open nets
-  pub telling-turning : Turning l (kind_by (get_or row i 0) (noted row labels.first i) (noted row labels.last i) (suc i)) (get_or row i 0)
+  pub telling-turning : Turning l (kind_by (get_or row i 0) (noted row first i) (noted row last i) (suc i)) (get_or row i 0)
   unfolding k x o home
   telling-turning =
       record {
@@ -171,10 +172,10 @@ module _ (row : List ℕ) (labels : Labels) (plan : List Step) (l : List ℕ) (i
   still-begun E = below-cut (before (home row i) o) (below-mono (omega arith) t.begun)
   still-begun N = below-mono (omega arith) t.begun
 
-  -- a blank's age is 0 whatever it is known by, and it leaves the open nets as they are
-  age-home : age (node_at row i) o ≡ age (node (kind (node_at row i)) (home row i)) o
-  unfolding age
-  age-home = by_home (λ n. age n o) (λ y z. refl) row i
+  -- a blank's turn is the same whatever it is known by, and it leaves the open nets as they are
+  turn-home : turn (node_at row i) o ≡ turn (node (kind (node_at row i)) (home row i)) o
+  unfolding turn
+  turn-home = by_home (λ n. turn n o) (λ y z. refl) row i
 
   young-home : young (node_at row i) o ≡ young (node (kind (node_at row i)) (home row i)) o
   unfolding young
@@ -182,20 +183,20 @@ module _ (row : List ℕ) (labels : Labels) (plan : List Step) (l : List ℕ) (i
 
   -- a node on
   pub telling-more : (s : Step) (next : List ℕ)
-      → Turned l (kind_by (get_or row i 0) (noted row labels.first i) (noted row labels.last i) (suc i)) (get_or row i 0) s next
+      → Turned l (kind_by (get_or row i 0) (noted row first i) (noted row last i) (suc i)) (get_or row i 0) s next
       → Telling row (set plan i s) next (suc i)
   unfolding k x o home
   telling-more s next turned =
       let f : ℕ → ℕ = λ y. before y row in
       let K : Kind = kind (node_at row i) in
       let g = going_more row (take i plan) i o t.going h (λ e. omega (arith, length_o, turned.room (kind-told ∙ e))) in
-      let told : step K (age (node_at row i) o) (length o) ≡ s =
-      ap₂ (λ (a n : ℕ). step K a n) (age-home ∙ age-map f x only K l) length_o
-      ∙ ap (λ (j : Kind). step j (age (node j x) l) (length l)) (sym kind-told)
+      let told : step (turn (node_at row i) o) (length o) ≡ s =
+      ap₂ (λ (q : Turn) (n : ℕ). step q n) (turn-home ∙ turn-map f x only K l) length_o
+      ∙ ap (λ (j : Kind). step (turn (node j x) l) (length l)) (sym kind-told)
       ∙ sym turned.is in
       let opened : young (node_at row i) o ≡ homes row next =
       young-home ∙ young-map f x only K l ∙ ap (λ (j : Kind). map f (young (node j x) l)) (sym kind-told) ∙ ap (map f) (sym turned.list) in
-      let done : take i plan ++ (step K (age (node_at row i) o) (length o) ∷ []) ≡ take (suc i) (set plan i s) =
+      let done : take i plan ++ (step (turn (node_at row i) o) (length o) ∷ []) ≡ take (suc i) (set plan i s) =
       ap (λ (r : Step). take i plan ++ (r ∷ [])) told ∙ sym (take-suc-set plan i s (omega (arith, t.cells))) in
       record {
         upto = h;
@@ -205,11 +206,11 @@ module _ (row : List ℕ) (labels : Labels) (plan : List Step) (l : List ℕ) (i
       }
 
   -- a node that begins a net and finds six open
-  pub telling-full : Full l (kind_by (get_or row i 0) (noted row labels.first i) (noted row labels.last i) (suc i)) → Told row (set plan i (step B 0 6))
+  pub telling-full : Full l (kind_by (get_or row i 0) (noted row first i) (noted row last i) (suc i)) → Told row (set plan i (step Begins 6))
   unfolding k x o
   telling-full full =
       let n : ℕ = length row in
-      let s : Step = step B 0 6 in
+      let s : Step = step Begins 6 in
       let c : List Step = set plan i s in
       let ss : List Step = drop (suc i) (take n c) in
       let long : length (take n c) ≡ n = length-take-le n c (omega (arith, length-set plan i s, t.cells)) in
@@ -221,5 +222,5 @@ module _ (row : List ℕ) (labels : Labels) (plan : List Step) (l : List ℕ) (i
         cells = length-set plan i s ∙ t.cells;
         tells =
             rw all
-            (going-full row (take i plan) i o t.going h (sym kind-told ∙ full.begins) (length_o ∙ full.six) 0 ss (omega (arith, length-drop (suc i) (take n c), long)));
+            (going-full row (take i plan) i o t.going h (sym kind-told ∙ full.begins) (length_o ∙ full.six) ss (omega (arith, length-drop (suc i) (take n c), long)));
       }

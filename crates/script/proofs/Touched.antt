@@ -18,7 +18,7 @@ use Rattle.rules.proofs.Lists.{length_cut}
 use Rattle.rules.proofs.Legal.{New}
 use Rattle.rules.proofs.Open.{one, one_same, one-other, times, times_cut, Ahead, ahead-later}
 use Rattle.steps.specs.declared.plan.Step.{Step}
-use Rattle.steps.specs.Plan.{step, young, age, Steps, Tells}
+use Rattle.steps.specs.Plan.{step, young, turn, Steps, Tells}
 use Rattle.script.proofs.Noting.{apart}
 
 -- what stands in a list is found in it
@@ -141,7 +141,7 @@ from-nodes row = from-table row (length row) 0 (node_at row) (λ j l. ap (node_a
 -- ---- the plan can be followed
 
 follow : (row : List ℕ) {i : ℕ} {ns : List Node} {o : List ℕ} {ss : List Step} → From row i ns → Kept row i o → length o ≤ 6 → Tells ns o ss → Steps (length o) ss
-unfolding kind young age
+unfolding kind young turn
 follow row nil kept few Tells.nil = Steps.nil few
 follow row (cons h e r) kept few (Tells.full six long) = rw six Steps.full
 follow row (cons {i} {n} h e r) kept few (Tells.more {o = o} {ss = ss} room t) =
@@ -149,7 +149,7 @@ follow row (cons {i} {n} h e r) kept few (Tells.more {o = o} {ss = ss} room t) =
     go n e room (λ f. follow row r kept' f t)
   where
     go : (n : Node) → n ≡ node_at row i → (kind n ≡ B → length o < 6) → (length (young n o) ≤ 6 → Steps (length (young n o)) ss)
-        → Steps (length o) (step (kind n) (age n o) (length o) ∷ ss)
+        → Steps (length o) (step (turn n o) (length o) ∷ ss)
     go (node B x) e room rest = Steps.begins (room refl) (rest (room refl))
     go (node M x) e room rest = Steps.meets {a = before x o} {b = length o} (node-open row i h o kept M x (λ n. n) e) few (rest few)
     go (node E x) e room rest =

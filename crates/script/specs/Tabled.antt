@@ -2,7 +2,6 @@
 use Rattle.std.specs.Prelude.{◌≡◌, Bool, not, ◌&&◌, List, ℕ, suc, ◌-◌, ◌≤◌, ◌<◌, length, get_or, eqb}
 use Rattle.rules.specs.Basic.{pick}
 use Rattle.rules.specs.Row.{home}
-use Rattle.script.specs.declared.labels.Labels.{Labels}
 
 -- a table's entry for the label of node i
 abbrev pub noted : (row table : List ℕ) → ℕ → ℕ
@@ -23,18 +22,18 @@ pub record Lasts (row : List ℕ) (k : ℕ) (table : List ℕ) : Type 0 where
   pub same : (i : ℕ) → i < k → get_or row (noted row table i - 1) 0 ≡ get_or row i 0
 
 -- the labels of a row: at the label of node i, the first node that carries it, and the last
-pub record Tabled (row : List ℕ) (labels : Labels) : Type 0 where
-  pub firsts : length labels.first ≡ 256
-  pub begins : (i : ℕ) → i < length row → noted row labels.first i ≡ suc (home row i)
-  pub lasts : Lasts row (length row) labels.last
+pub record Tabled (row first last : List ℕ) : Type 0 where
+  pub firsts : length first ≡ 256
+  pub begins : (i : ℕ) → i < length row → noted row first i ≡ suc (home row i)
+  pub lasts : Lasts row (length row) last
 
 -- 1 where a label's first node is there and is the last
 unfoldable pub alone : (first last : ℕ) → ℕ
 alone first last = pick (eqb first 0) 0 (pick (eqb first last) 1 0)
 
 -- the label is a net's, and its first and its last node are one
-abbrev pub lone_label : Labels → ℕ → Bool
-lone_label labels x = not (eqb x 255) && eqb (get_or labels.first x 0) (get_or labels.last x 0)
+abbrev pub lone_label : (first last : List ℕ) → ℕ → Bool
+lone_label first last x = not (eqb x 255) && eqb (get_or first x 0) (get_or last x 0)
 
 -- of the labels below n none has one node only
 abbrev pub Apart : (first last : List ℕ) → ℕ → Type 0

@@ -6,7 +6,7 @@ use Rattle.rules.specs.declared.Kind.TheVariants.{B, N}
 use Rattle.rules.specs.Row.{before, node, nodes, kind_of}
 use Rattle.street.specs.Order.{capacity}
 use Rattle.steps.specs.declared.plan.Step.{Step}
-use Rattle.steps.specs.Plan.{step, touches, young, age, Tells}
+use Rattle.steps.specs.Plan.{step, turn_kind, touches, young, turn, Tells}
 
 -- the kind of node i with label x, by the first and the last node that carry it
 unfoldable pub kind_by : (x first last i : ℕ) → Kind
@@ -24,7 +24,7 @@ pub record Full (o : List ℕ) (k : Kind) : Type 0 where
 
 -- the step of a node with this kind and label, and the open nets after it
 pub record Turned (o : List ℕ) (k : Kind) (x : ℕ) (s : Step) (next : List ℕ) : Type 0 where
-  pub is : s ≡ step k (age (node k x) o) (length o)
+  pub is : s ≡ step (turn (node k x) o) (length o)
   pub list : next ≡ young (node k x) o
   pub room : k ≡ B → length o < capacity
 
@@ -39,4 +39,4 @@ pub record Told (row : List ℕ) (plan : List Step) : Type 0 where
 
 -- the kinds of steps
 abbrev pub kinds : List Step → List Kind
-kinds ss = map (λ (s : Step). s.kind) ss
+kinds ss = map (λ (s : Step). turn_kind s.turn) ss

@@ -3,60 +3,71 @@ ghost use Rattle.std.specs.Prelude.{◌≡◌, ◌≤◌, ◌<◌, length, posit
 ghost use Rattle.rules.specs.Answers.{first_lone};
 ghost use Rattle.script.specs.Tabled.{Firsts, Lasts, Tabled, alone, Apart, lone_label};
 
-// For each label its first and its last node in a row, counted from 1. Entries of labels that do not occur say nothing.
+use rules::BLANK;
+
+// The labels that nets can have.
+const NETS: usize = BLANK as usize;
+
+// A row's labels: for each its first and its last node, counted from 1, and 0 where it does not occur: two arrays that begin as [0; 256] and are filled once per row, as the exact
+// rules name them.
 #[derive(Drop)]
-pub struct Labels {
+pub struct Labels<'a> {
+    pub row: &'a [u8],
     pub first: [u16; 256],
     pub last: [u16; 256],
+    ghost tabled: { Tabled row.now first last },
 }
 
-impl Labels {
-    // Fills in the labels of a row.
-    pub fn scan(&mut self, row: &[u8])
+impl Labels<'_> {
+    // The labels of a row. That it has at most 512 nodes is asked here, where they are noted, and where the plan is told: `lone` serves a row of any length.
+    pub fn of(row: &[u8]) -> Labels<'_>
         requires { length row.now ≤ 512 }
-        ensures { Tabled row.now self.new }
+        ensures { result.row.now ≡ row.now }
     {
-        note_firsts(row, &mut self.first);
-        note_lasts(row, &mut self.last);
+        let mut first = [0; 256];
+        note_firsts(row, &mut first);
+        let mut last = [0; 256];
+        note_lasts(row, &mut last);
+        Labels { row, first, last }
     }
 
     // The first node, from 0, that is no blank and whose label stands at no other.
-    pub fn lone(&self, row: &[u8]) -> Option<usize>
-        requires { Tabled row.now self.now }
-        ensures none { IsNone result → first_lone row.now ≡ length row.now }
-        ensures some { IfSome result (λ i. (i < length row.now) × (first_lone row.now ≡ i)) }
+    pub fn lone(&self) -> Option<usize>
+        ensures none { IsNone result → first_lone self.now.row.now ≡ length self.now.row.now }
+        ensures some { IfSome result (λ i. (i < length self.now.row.now) × (first_lone self.now.row.now ≡ i)) }
     {
         if self.lone_labels() == 0 {
             return None;
         }
-        self.first_lone(row)
+        self.first_lone()
     }
 
-    // 0 only if no label of a net has one node only. It goes through 0 to 254, the labels of nets, without a branch, so that eight are taken at a time, which `any` would not. A label that
-    // does not occur is not counted where its entries are 0, so that a row of which no label is lone need not be gone through.
+    // 0 only if no label of a net has one node only. It goes through 0 to 254, the labels of nets, without a branch, so that eight are taken at a time. A label that does not occur
+    // is not counted where its entries are 0, so that a row of which no label is lone need not be gone through. The loop adds, since `sum` asks beforehand that whatever
+    // part of the numbers is taken adds up within u16.
     fn lone_labels(&self) -> u16
         ensures { result ≡ 0 → Apart self.now.first self.now.last 255 }
     {
         let mut count = 0;
-        for (first, last) in self.first[..255].iter().zip(&self.last[..255]) {
+        for (first, last) in self.first[..NETS].iter().zip(&self.last[..NETS]) {
             count += one_node(*first, *last);
         }
         count
     }
 
     // The first node whose label is a net's of one node, gone through node by node.
-    fn first_lone(&self, row: &[u8]) -> Option<usize>
-        ensures { result ≡ position (lone_label self.now) row.now }
+    fn first_lone(&self) -> Option<usize>
+        ensures { result ≡ position (lone_label self.now.first self.now.last) self.now.row.now }
     {
-        row.iter().position(|x| self.is_lone(*x))
+        self.row.iter().position(|x| self.is_lone(*x))
     }
 
     // Whether the label is a net's, and its first and its last node are one.
     fn is_lone(&self, label: u8) -> bool
-        ensures { result ≡ lone_label self.now label }
+        ensures { result ≡ lone_label self.now.first self.now.last label }
     {
         let at = usize::from(label);
-        label != 255 && self.first[at] == self.last[at]
+        label != BLANK && self.first[at] == self.last[at]
     }
 }
 
@@ -67,15 +78,14 @@ fn one_node(first: u16, last: u16) -> u16
     u16::from(first != 0 && first == last)
 }
 
-// Each label's first node: the nodes write their numbers, the last one first.
+// Each label's first node: the nodes write their numbers, the last one first. It stands apart from note_lasts, which goes the other way: one function of
+// any iterator would leave it to both callers to prove in which order the nodes come.
 fn note_firsts(row: &[u8], table: &mut [u16; 256])
     requires { length row.now ≤ 512 }
     ensures { Firsts row.now 0 table.new }
 {
-    let mut left = row;
-    while let Some((x, before)) = left.split_last() {
-        table[usize::from(*x)] = left.len() as u16;
-        left = before;
+    for (i, x) in row.iter().enumerate().rev() {
+        table[usize::from(*x)] = (i + 1) as u16;
     }
 }
 

@@ -8,7 +8,8 @@ ghost use Rattle.script.specs.Open.{Lined, Closed};
 use std::marker::Model;
 use street::CAPACITY;
 
-// Seen as the labels of the open nets, youngest first. The labels stand oldest first, and each knows how many are older. They stand in arrays: there is no heap.
+// Seen as the labels of the open nets, youngest first. The labels stand oldest first, and each knows how many are older. They stand in an array with a count, since
+// `close` moves each younger label and renumbers it in one turn: after `remove` of an `ArrayVec` they would be gone through once more.
 #[derive(Drop)]
 pub struct OpenNets {
     labels: [u8; CAPACITY],
@@ -83,6 +84,7 @@ fn close(labels: &mut [u8; CAPACITY], elders: &mut [u8; 256], e: usize, b: usize
     requires { Lined labels.old elders.old (suc b) × (e ≤ b) }
     ensures { Closed labels.old e b labels.new elders.new }
 {
+    // By index: k is a cell of one array, and what the other gets. After copy_within the labels would be gone through once more.
     for k in e..b {
         let label = labels[k + 1];
         labels[k] = label;

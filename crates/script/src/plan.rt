@@ -1,29 +1,27 @@
-// The plan of a row: for each node its kind, the age of its net, and how many nets are open before it.
+// The plan of a row: for each node its turn, and how many nets are open before it.
 ghost use Rattle.std.specs.Prelude.{suc, ◌≤◌, length};
-ghost use Rattle.script.specs.Tabled.{Tabled};
 ghost use Rattle.script.specs.Told.{kind_by, Turning, Turns, Told};
 
 use crate::labels::Labels;
 use crate::open::OpenNets;
-use rules::Kind;
-use steps::plan::Step;
+use rules::BLANK;
+use steps::plan::{Step, Turn};
 use street::CAPACITY;
 
-// Fills the plan of a row, by its label tables: a step for each node that a row can have. Steps past the row's nodes are free, and so are those past a node that
+// Fills the plan of a row, by its labels: a step for each node that a row can have. Steps past the row's nodes are free, and so are those past a node that
 // begins a seventh open net: no order gets past it.
-pub fn tell(row: &[u8], labels: &Labels, plan: &mut [Step; 512])
-    requires row_len_bound { length row.now ≤ 512 }
-    requires tabled { Tabled row.now labels.now }
-    ensures { Told row.now plan.new }
+pub fn tell(labels: &Labels, plan: &mut [Step; 512])
+    requires { length labels.now.row.now ≤ 512 }
+    ensures { Told labels.now.row.now plan.new }
 {
     let mut nets = OpenNets::new();
-    for (i, x) in row.iter().enumerate() {
+    // A step is written by its index: of what is written through iter_mut in a zip, a proof knows only how many there are.
+    for (i, x) in labels.row.iter().enumerate() {
         let at = usize::from(*x);
         let turn = turn_at(&mut nets, i + 1, *x, labels.first[at], labels.last[at]);
         let Some(step) = turn else {
             plan[i] = Step {
-                kind: Kind::B,
-                age: 0,
+                turn: Turn::Begins,
                 count: CAPACITY as u8,
             };
             return;
@@ -39,10 +37,9 @@ fn turn_at(nets: &mut OpenNets, i: usize, x: u8, first: u16, last: u16) -> Optio
     ensures { Turns nets.old (kind_by x first last i) x result nets.new }
 {
     let count = nets.count() as u8;
-    if x == 255 {
+    if x == BLANK {
         return Some(Step {
-            kind: Kind::N,
-            age: 0,
+            turn: Turn::Rests,
             count,
         });
     }
@@ -52,8 +49,7 @@ fn turn_at(nets: &mut OpenNets, i: usize, x: u8, first: u16, last: u16) -> Optio
         }
         nets.begin(x);
         return Some(Step {
-            kind: Kind::B,
-            age: 0,
+            turn: Turn::Begins,
             count,
         });
     }
@@ -61,14 +57,12 @@ fn turn_at(nets: &mut OpenNets, i: usize, x: u8, first: u16, last: u16) -> Optio
     if usize::from(last) == i {
         nets.end(x);
         return Some(Step {
-            kind: Kind::E,
-            age,
+            turn: Turn::Ends(age),
             count,
         });
     }
     Some(Step {
-        kind: Kind::M,
-        age,
+        turn: Turn::Meets(age),
         count,
     })
 }

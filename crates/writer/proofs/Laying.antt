@@ -9,12 +9,11 @@ use lib.ListN.{length, get_or, take, drop, length-append, length-drop, take-appe
 use lib.Seq.{take-suc, get_or-drop, take_at, drop_at, drop-drop, take_all, length-take-le}
 use Rattle.rules.specs.Bits.{digits, bits, bytes, Below, nil}
 use Rattle.rules.specs.Sheet.{Entry as SheetEntry, entry, entry_bits, sheet_bits, size, padding, code}
-use Rattle.rules.proofs.Legal.{code_lt}
-use Rattle.writer.specs.declared.entry.Entry.{Entry}
+use Rattle.writer.specs.Entries.{Entry, bits_of, entry_in, byte-entry}
 use Rattle.rules.specs.Answers.{written}
 use Rattle.rules.proofs.Fields.{length_digits, length-pack, digits-join, pack-append, drop-pack, below-digits, below-append, below-drop, below-bytes, bits-bytes, bytes_bits, length-bytes}
 use Rattle.bits.specs.Access.{Put}
-use Rattle.writer.specs.Entered.{listed, head_bits, bits_of, entered, Writing, over, Laid, Started}
+use Rattle.writer.specs.Entered.{listed, head_bits, entered, Writing, over, Laid, Started}
 
 -- ---- laying bits
 
@@ -106,12 +105,11 @@ four-digits a b c d hb hc hd ea eb ec ed =
     digits-join 12 12 (a * 64 + b) (omega arith)
     ∙ ap₂ (λ (x y : List ℕ). x ++ y) (digits-join 6 6 a hb ∙ ap₂ (λ (x y : List ℕ). x ++ y) ea eb) (digits-join 6 6 c hd ∙ ap₂ (λ (x y : List ℕ). x ++ y) ec ed)
 
--- a kind field and a place
-pub node-lt : (e : Entry) → code e.kind * 16 + e.above < 64
-node-lt e = omega (arith, code_lt e.kind, e.above_few)
-
-pub node-digits : (e : Entry) → digits 6 (code e.kind * 16 + e.above) ≡ bits_of e
-node-digits e = digits-join 2 4 (code e.kind) e.above_few
+-- six bits are those of the entry in them
+pub six-digits : (x : ℕ) → x < 64 → digits 6 x ≡ bits_of (entry_in x)
+six-digits x h =
+    let e = entry_in x in
+    ap (digits 6) (sym (byte-entry x h)) ∙ digits-join 2 4 (code e.kind) (omega arith)
 
 -- four entries, one by one
 pub four-list : (l : List Entry) (a b c d : Entry) → length l ≡ 4 → a ≡ get_or l 0 a → b ≡ get_or l 1 b → c ≡ get_or l 2 c → d ≡ get_or l 3 d

@@ -2,7 +2,7 @@
 use Rattle.std.specs.Prelude.{◌≡◌, List, [], ◌∷◌, ◌++◌, ℕ, ◌+◌, ◌*◌, ◌≤◌, length, take, drop}
 use Rattle.rules.specs.Bits.{digits, bits}
 use Rattle.rules.specs.Sheet.{Entry as SheetEntry, entry, entry_bits, size, code}
-use Rattle.writer.specs.declared.entry.Entry.{Entry}
+use Rattle.writer.specs.Entries.{Entry}
 
 -- a node's entry, as the sheet's definition has it
 abbrev pub entry_of : Entry → SheetEntry
@@ -16,10 +16,6 @@ listed (e ∷ es) = entry_of e ∷ listed es
 -- Ku, Kl and the number of nodes
 unfoldable pub head_bits : (ku kl n : ℕ) → List ℕ
 head_bits ku kl n = digits 4 ku ++ (digits 2 kl ++ digits 10 n)
-
--- the bits of a node
-abbrev pub bits_of : Entry → List ℕ
-bits_of e = digits 2 (code e.kind) ++ digits 4 e.above
 
 -- the bits of the first i nodes
 abbrev pub entered : List Entry → ℕ → List ℕ

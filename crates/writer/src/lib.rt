@@ -5,22 +5,15 @@ pub mod entry;
 
 ghost use Rattle.std.specs.Prelude.{◌≡◌, ◌+◌, ◌*◌, ◌/◌, ◌^◌, ◌≤◌, ◌<◌, length};
 ghost use Rattle.rules.specs.Bits.{digits, bytes};
-ghost use Rattle.rules.specs.Sheet.{sheet_bits, entry_bits, size};
+ghost use Rattle.rules.specs.Sheet.{sheet_bits, entry_bits};
 ghost use Rattle.rules.specs.Answers.{written};
-ghost use Rattle.writer.specs.Entered.{listed, bits_of, head_bits, Entering, Writing, Laid, Started};
+ghost use Rattle.writer.specs.Entered.{listed, head_bits, Entering, Writing, Laid, Started};
 
 use entry::Entry;
 use rules::Streets;
 
-// The bytes of a sheet of n nodes.
-pub fn sheet_size(n: usize) -> usize
-    requires { n ≤ 512 }
-    ensures { result ≡ size n }
-{
-    2 + (3 * n + 3) / 4
-}
-
 // Writes the sheet of nodes with these entries. What stands behind it in the buffer stays as it was.
+// The buffer and the entries go on to `write_entries` and `write_fours` as they are lent.
 pub fn write_sheet(buf: &mut [u8], entries: &[Entry], streets: Streets)
     requires { Writing buf.old entries.now }
     ensures { buf.new ≡ written (bytes (sheet_bits streets.upper streets.lower (listed entries.now))) buf.old }
@@ -29,7 +22,7 @@ pub fn write_sheet(buf: &mut [u8], entries: &[Entry], streets: Streets)
     write_head(buf, streets, n);
     write_entries(buf, entries);
     let end = 16 + 6 * n;
-    bits::put_bits(buf, end, 8 * sheet_size(n) - end, 0);
+    bits::put_bits(buf, end, 8 * bits::sheet_size(n) - end, 0);
 }
 
 // Writes the track counts and the number of nodes: 4 bits, 2 and 10.
@@ -48,9 +41,10 @@ fn write_entries(buf: &mut [u8], entries: &[Entry])
     ensures { Laid buf.old 16 (entry_bits (listed entries.now)) buf.new }
 {
     write_fours(buf, entries);
+    // Where the first of the fields that are left stands, too.
     let done = entries.len() / 4 * 4;
     for (i, entry) in entries[done..].iter().enumerate() {
-        bits::put_bits(buf, 16 + 6 * (done + i), 6, six_bits(*entry) as u16);
+        bits::put_bits(buf, 16 + 6 * (done + i), 6, entry.six_bits() as u16);
     }
 }
 
@@ -64,19 +58,12 @@ fn write_fours(buf: &mut [u8], entries: &[Entry])
     }
 }
 
-// The 24 bits of four nodes.
+// The 24 bits of four nodes, which come as `chunks_exact` gives them: a slice with its length.
 fn four_bits(four: &[Entry]) -> u32
     requires { length four.now ≡ 4 }
     ensures { (digits 24 result ≡ entry_bits (listed four.now)) × (result < 2 ^ 24) }
 {
-    let upper = six_bits(four[0]) * 64 + six_bits(four[1]);
-    let lower = six_bits(four[2]) * 64 + six_bits(four[3]);
+    let upper = four[0].six_bits() * 64 + four[1].six_bits();
+    let lower = four[2].six_bits() * 64 + four[3].six_bits();
     upper * 4096 + lower
-}
-
-// The six bits of a node: its kind field in 2, the nets above it in 4.
-fn six_bits(entry: Entry) -> u32
-    ensures { (digits 6 result ≡ bits_of entry) × (result < 64) }
-{
-    entry.kind as u32 * 16 + u32::from(entry.above)
 }

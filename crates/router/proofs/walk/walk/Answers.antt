@@ -1,53 +1,46 @@
 -- Each node of the walk is one of the first way, by `walks_more`.
-use Rattle.std.proofs.Common.{arith, refl}
+use Rattle.std.proofs.Common.{arith, ◌∙◌}
 use Rattle.router.proofs.Walking.{walks-none, in-row, walks-standing, walks_more, walks-end}
 use Rattle.router.proofs.walk.walk.Goals as goal
 
 pub loop-i-init : goal.loop-i-init
 loop-i-init c =
     let a = c.args in
-    let p = c.requires in
-    walks-none a.row.now a.plan.now a.streets a.work.now p.given p.kept p.planned p.told p.passable c.new-held.result c.new-held.ensures a.entries.now (omega arith)
+    walks-none a.row.now a.plan.now a.streets a.work.now c.requires c.new-held.result c.new-held.ensures a.entries.now (omega arith)
 
 pub bounds-row-i : goal.bounds-row-i
 bounds-row-i c =
     let a = c.args in
-    let p = c.requires in
     let l = c.loop-i in
-    in-row a.row.now a.plan.now a.streets a.work.now p.given p.kept p.planned p.told l.entries l.held l.i l.rank l.invariant c.loop-i-test.true
+    in-row a.row.now a.plan.now a.streets a.work.now c.requires l.entries l.held l.i l.rank l.invariant c.loop-i-test.true
 
 pub stand-after-requires : goal.stand-after-requires
 stand-after-requires c =
     let a = c.args in
-    let p = c.requires in
     let l = c.loop-i in
-    walks-standing a.row.now a.plan.now a.streets a.work.now p.given p.kept p.planned p.told l.entries l.held l.i l.rank l.invariant c.loop-i-test.true
+    walks-standing a.row.now a.plan.now a.streets a.work.now c.requires l.entries l.held l.i l.rank l.invariant c.loop-i-test.true
 
 pub listed : goal.listed
 listed c =
     let a = c.args in
-    let p = c.requires in
     let l = c.loop-i in
-    omega (arith, p.planned.few, in-row a.row.now a.plan.now a.streets a.work.now p.given p.kept p.planned p.told l.entries l.held l.i l.rank l.invariant c.loop-i-test.true)
+    omega (arith, c.requires.planned.few, in-row a.row.now a.plan.now a.streets a.work.now c.requires l.entries l.held l.i l.rank l.invariant c.loop-i-test.true)
 
 pub bounds-entries-i : goal.bounds-entries-i
 bounds-entries-i c =
     let a = c.args in
-    let p = c.requires in
     let l = c.loop-i in
-    omega (arith, p.planned.few, in-row a.row.now a.plan.now a.streets a.work.now p.given p.kept p.planned p.told l.entries l.held l.i l.rank l.invariant c.loop-i-test.true)
+    omega (arith, c.requires.planned.few, in-row a.row.now a.plan.now a.streets a.work.now c.requires l.entries l.held l.i l.rank l.invariant c.loop-i-test.true)
 
 pub loop-i-preserved : goal.loop-i-preserved
 loop-i-preserved c =
     let a = c.args in
-    let p = c.requires in
     let l = c.loop-i in
-    walks_more a.row.now a.plan.now a.streets a.work.now p.given p.kept p.planned p.told l.entries l.held l.i l.rank l.invariant c.loop-i-test.true
-    _ c.stand-after.result.0.rest c.stand-after.result.1 refl c.stand-after.ensures
+    walks_more a.row.now a.plan.now a.streets a.work.now c.requires l.entries l.held l.i l.rank l.invariant c.loop-i-test.true
+    c.new.result c.stand-after.result.0.rest c.stand-after.result.1 (c.new.ensures.kind ∙ c.from.ensures) (rw c.new.ensures.above c.stand-after.ensures)
 
 pub returns : goal.returns
 returns c =
     let a = c.args in
-    let p = c.requires in
     let l = c.loop-i in
-    walks-end a.row.now a.plan.now a.streets a.work.now p.given p.kept p.planned p.told l.entries l.held l.i l.rank l.invariant c.loop-i-test.false
+    walks-end a.row.now a.plan.now a.streets a.work.now c.requires l.entries l.held l.i l.rank l.invariant c.loop-i-test.false

@@ -3,4 +3,4 @@ use Rattle.script.proofs.Telling.{Telling}
 use Rattle.script.proofs.plan.tell.Given as goal
 
 abbrev pub invariant-loop-i : goal.invariant-loop-i
-invariant-loop-i l = Telling l.row l.plan l.nets l.i
+invariant-loop-i l = Telling l.labels.row.now l.plan l.nets l.i
