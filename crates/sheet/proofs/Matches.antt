@@ -13,7 +13,7 @@ use lib.Dec.{eqb}
 use borrow.Author.Tests.{eqb-true, eqb-false, eq-eqb, ne_eqb}
 use Rattle.std.specs.Prelude.{Option, None, Some}
 use Rattle.std.specs.Option.{option_eq}
-use Rattle.std.proofs.lemmas.List.{map-set}
+use Rattle.std.proofs.lemmas.List.{map-set, set-set, set_comm}
 use Rattle.rules.specs.Basic.{pick}
 use Rattle.rules.specs.Row.{blank, joined, SamePins}
 use Rattle.rules.proofs.Pins.{same-label}
@@ -282,31 +282,67 @@ cell-injective None (Some y) e = absurd (omega arith)
 cell-injective (Some x) None e = absurd (omega arith)
 cell-injective (Some x) (Some y) e = let z : x ≡ y = omega arith in ap Some z
 
-module _ (row own : List ℕ) (table : List (Option ℕ)) (i n : ℕ) (h : i < length own) (m : Matched row own (map cell table) i n) where
-  module _ {l x : ℕ} (p : l ≡ get_or row i 0) (q : x ≡ get_or own i 0) {k : Option ℕ} (r : k ≡ pick (begins x n) None (Some x)) where
+-- the table of all labels: that of blanks has itself
+abbrev pub full : List (Option ℕ) → List ℕ
+full table = set (map cell table) 255 256
+
+told : (t : Bool) → false ≡ not t → t ≡ true
+told true e = refl
+told false e = cc
+
+module _ (row own : List ℕ) (table : List (Option ℕ)) (i n : ℕ) (h : i < length own) (m : Matched row own (full table) i n) {l x : ℕ} (p : l ≡ get_or row i 0) (q : x ≡ get_or own i 0) where
+  -- a blank meets a net
+  pub cells-apart : (eqb l 255 ≡ eqb x 255 → ⊥) → i < length row → SamePins row own → ⊥
+  unfolding blank
+  cells-apart d hr s = d (rw (p, q) (s.blanks i hr))
+
+  -- a blank meets a blank
+  pub cells-blank : eqb l 255 ≡ eqb x 255 → x ≡ 255 → Matched row own (full table) (i + 1) n
+  unfolding pick
+  cells-blank alike z =
+      let a : get_or row i 0 ≡ 255 = sym p ∙ eqb-true l 255 (alike ∙ eq-eqb x 255 z) in
+      let b : get_or own i 0 ≡ 255 = sym q ∙ z in
+      let f : begins (get_or own i 0) n ≡ false = begins-blank n b in
+      let k : get_or (full table) (get_or row i 0) 0 ≡ pick (begins (get_or own i 0) n) 0 (suc (get_or own i 0)) = rw (f, a, b) m.blanks in
+      let s : Matched row own (set (full table) (get_or row i 0) 256) (i + 1) n =
+      match-step row own (full table) i n h m (omega arith) k (omega arith) (rw f refl) in
+      rw set-set at (rw a at s)
+
+  -- a net meets a net
+  module _ (alike : eqb l 255 ≡ eqb x 255) (e : x ≢ 255) {k : Option ℕ} (r : k ≡ pick (eqb x n) None (Some x)) where
+    d : l ≢ 255
+    d y = e (eqb-true x 255 (sym alike ∙ eq-eqb l 255 y))
+
+    begins-net : eqb x n ≡ begins x n
+    unfolding begins
+    begins-net = rw (ne_eqb x 255 e) refl
+
     asked : cell k ≡ pick (begins (get_or own i 0) n) 0 (suc (get_or own i 0))
-    asked = ap cell r ∙ cell-pick (begins x n) x ∙ ap (λ (x : ℕ). pick (begins x n) 0 (suc x)) q
+    asked =
+        ap cell r
+        ∙ cell-pick (eqb x n) x
+        ∙ ap (λ (t : Bool). pick t 0 (suc x)) begins-net
+        ∙ ap (λ (x : ℕ). pick (begins x n) 0 (suc x)) q
 
-    there : cell (get_or table l None) ≡ get_or (map cell table) (get_or row i 0) 0
-    there = sym (get_or-map cell table l None) ∙ ap (λ (l : ℕ). get_or (map cell table) l 0) p
+    there : cell (get_or table l None) ≡ get_or (full table) (get_or row i 0) 0
+    there =
+        sym (get_or-map cell table l None)
+        ∙ sym (get_or-set_other (map cell table) 255 l 256 0 d)
+        ∙ ap (λ (l : ℕ). get_or (full table) l 0) p
 
-    pub cells-step : l < 256 → false ≡ not (option_eq eqb (get_or table l None) k) → {n' : ℕ} → n' ≡ pick (begins x n) (suc n) n
-        → Matched row own (map cell (set table l (Some x))) (i + 1) n'
-    cells-step b t e =
+    pub cells-step : l < 256 → false ≡ not (option_eq eqb (get_or table l None) k) → {n' : ℕ} → n' ≡ pick (eqb x n) (suc n) n
+        → Matched row own (full (set table l (Some x))) (i + 1) n'
+    cells-step b t g =
         let same : get_or table l None ≡ k = same-cells (get_or table l None) k (told (option_eq eqb (get_or table l None) k) t) in
         let b' : get_or row i 0 < 256 = omega arith in
-        let e' = e ∙ ap (λ (x : ℕ). pick (begins x n) (suc n) n) q in
-        rw (map-set cell table l (Some x), p)
-        (match-step row own (map cell table) i n h m b' (sym there ∙ ap cell same ∙ asked) (ap suc q) e')
-      where
-        told : (t : Bool) → false ≡ not t → t ≡ true
-        told true e = refl
-        told false e = cc
+        let g' = g ∙ ap (λ (t : Bool). pick t (suc n) n) begins-net ∙ ap (λ (x : ℕ). pick (begins x n) (suc n) n) q in
+        rw (map-set cell table l (Some x), set_comm (map cell table) l 255 (suc x) 256 d, p)
+        (match-step row own (full table) i n h m b' (sym there ∙ ap cell same ∙ asked) (ap suc q) g')
 
     pub cells-fail : true ≡ not (option_eq eqb (get_or table l None) k) → i < length row → SamePins row own → ⊥
     cells-fail t hr =
-        match-fails row own (map cell table) i n h m hr
-        (λ e. let same = cells-same (get_or table l None) k (cell-injective (get_or table l None) k (there ∙ e ∙ sym asked)) in
+        match-fails row own (full table) i n h m hr
+        (λ g. let same = cells-same (get_or table l None) k (cell-injective (get_or table l None) k (there ∙ g ∙ sym asked)) in
         let z : true ≡ false = rw same at t in clash z)
       where
         clash : true ≡ false → ⊥

@@ -1,14 +1,13 @@
 -- How many nets nodes without a fault have: each node begins one, ends one, or does neither.
-use mathlib.Core.Path.{◌≡◌, sym, ap, ◌∙◌}
+use mathlib.Core.Path.{◌≡◌, refl, sym, ◌∙◌}
 use mathlib.Core.Logic.{◌⊎◌, ⊎_elim}
-use mathlib.Core.Bool.{true, false}
+use mathlib.Core.Bool.{Bool, true, false}
 use mathlib.Core.List.{List, [], ◌∷◌}
-use Prim.Native.Nat.{ℕ, suc, ◌+◌, ◌*◌, ◌≤◌, ◌<◌}
-use native.Mathlib.Numerals.{add-one}
+use Prim.Native.Nat.{ℕ, zero, suc, ◌+◌, ◌*◌, ◌≤◌, ◌<◌}
 use native.Mathlib.Omega.{arith}
-use lib.ListN.{length, get_or, drop, length-map}
-use lib.Dec.{ltb}
-use borrow.Author.Tests.{lt-ltb, le-ltb}
+use lib.ListN.{length, length-map}
+use lib.Dec.{leb, ltb}
+use borrow.Author.Tests.{lt-ltb, le-ltb, lt-leb}
 use Rattle.rules.specs.declared.Kind.{Kind}
 use Rattle.rules.specs.declared.Kind.TheVariants.{B, M, E, N}
 use Rattle.rules.specs.Street.{last, counted}
@@ -18,7 +17,8 @@ use Rattle.rules.proofs.Fits.{FitsAt}
 use Rattle.rules.proofs.Legal.{Legal, done, then}
 use Rattle.sheet.specs.Fields.{entry_in, entries_in, Faultless}
 use Rattle.sheet.specs.Told.{kind_at}
-use Rattle.sheet.proofs.Scans.{entries_from, entries-end}
+use Rattle.std.specs.Bool.{MatchBool}
+use Rattle.std.specs.List.{AllWithin, HoldsAt}
 use Rattle.sheet.proofs.Walks.{faultless-legal}
 
 -- 1 for a node that neither begins nor ends a net
@@ -46,44 +46,47 @@ betweens-nets {ku} {kl} (then {b} {f} {a} {es} h l) n = go (kind_in f) h (betwee
     go E h e = omega (arith, h.high)
     go N h e = omega arith
 
-module _ (fs : List ℕ) where
-  -- fields without a fault under some streets
-  abbrev Clear : Type 0
-  Clear = (ku : ℕ) × (kl : ℕ) × Faultless ku kl fs
+-- a node begins a net or ends one
+abbrev pub Outer : ℕ → Type 0
+Outer x = (kind_at (entry_in x) ≡ B) ⊎ (kind_at (entry_in x) ≡ E)
 
+-- it does neither
+abbrev pub Inner : ℕ → Type 0
+Inner x = (kind_at (entry_in x) ≡ M) ⊎ (kind_at (entry_in x) ≡ N)
+
+betweens-cons : (e : Entry) (es : List Entry) → betweens (e ∷ es) ≡ between (kind_at e) + betweens es
+unfolding betweens kind_at
+betweens-cons (entry f a) es = refl
+
+betweens-none : (fs : List ℕ) → AllWithin Outer fs 0 (length fs) → betweens (entries_in fs) ≡ 0
+unfolding betweens
+betweens-none [] h = refl
+betweens-none (x ∷ fs) h =
+    let zero : between (kind_at (entry_in x)) ≡ 0 = ⊎_elim (λ e. rw e) (λ e. rw e) (h 0 0 (omega arith) (omega arith)) in
+    let rest = betweens-none fs (λ k d l m. h (suc k) d (omega arith) (omega arith)) in
+    omega (arith, betweens-cons (entry_in x) (entries_in fs), zero, rest)
+
+betweens-some : (fs : List ℕ) (k : ℕ) → k < length fs → HoldsAt Inner fs k → 1 ≤ betweens (entries_in fs)
+betweens-some [] k l h = absurd (omega arith)
+betweens-some (x ∷ fs) zero l h =
+    let one : between (kind_at (entry_in x)) ≡ 1 = ⊎_elim (λ e. rw e) (λ e. rw e) (h 0) in
+    omega (arith, betweens-cons (entry_in x) (entries_in fs), one)
+betweens-some (x ∷ fs) (suc k) l h =
+    omega (arith, betweens-cons (entry_in x) (entries_in fs), betweens-some fs k (omega arith) h)
+
+module _ {ku kl : ℕ} (fs : List ℕ) (c : Faultless ku kl fs) where
   -- how many nets they have
   abbrev nets : ℕ
   nets = begun_by 0 (entries_in fs)
 
-  clear-nets : Clear → 2 * nets + betweens (entries_in fs) ≡ length fs
-  clear-nets c = omega (arith, betweens-nets (faultless-legal c.2) 0, length-map fs entry_in)
+  all-nets : 2 * nets + betweens (entries_in fs) ≡ length fs
+  all-nets = omega (arith, betweens-nets (faultless-legal c) 0, length-map fs entry_in)
 
   -- fewer than 512 nodes have at most 255 nets
-  pub nets-short : Clear → length fs < 512 → false ≡ ltb 255 nets
-  nets-short c h = sym (le-ltb 255 nets (omega (arith, clear-nets c)))
+  pub nets-short : length fs < 512 → leb 512 (length fs) ≡ ltb 255 nets
+  nets-short h = lt-leb 512 (length fs) h ∙ sym (le-ltb 255 nets (omega (arith, all-nets)))
 
-  -- each node before i begins a net or ends one
-  pub record Paired (i : ℕ) : Type 0 where
-    pub within : i ≤ length fs
-    pub rest : betweens (drop i (entries_in fs)) ≡ betweens (entries_in fs)
-
-  module _ (i : ℕ) (h : i < length fs) (m : Paired i) {k : Kind} (p : k ≡ kind_at (entry_in (get_or fs i 0))) where
-    here : between k + betweens (drop (suc i) (entries_in fs)) ≡ betweens (entries_in fs)
-    unfolding betweens entry_in kind_at
-    here = rw p (ap betweens (sym (entries_from fs i h)) ∙ m.rest)
-
-    pub paired-step : (k ≡ B) ⊎ (k ≡ E) → Paired (i + 1)
-    paired-step q =
-        let none : between k ≡ 0 = ⊎_elim (λ e. rw e) (λ e. rw e) q in
-        record { within = omega arith; rest = rw (add-one i) (omega (arith, here, none)) }
-
-    pub paired-fails : Clear → (k ≡ M) ⊎ (k ≡ N) → false ≡ ltb 255 nets
-    paired-fails c q =
-        let one : between k ≡ 1 = ⊎_elim (λ e. rw e) (λ e. rw e) q in
-        sym (le-ltb 255 nets (omega (arith, clear-nets c, c.2.few, here, one)))
-
-  pub paired-end : (i : ℕ) → length fs ≤ i → 512 ≤ length fs → Paired i → Clear → true ≡ ltb 255 nets
-  unfolding betweens
-  paired-end i q l m c =
-      let z : betweens (entries_in fs) ≡ 0 = sym m.rest ∙ rw (entries-end fs i (omega (arith, m.within))) in
-      sym (lt-ltb 255 nets (omega (arith, clear-nets c)))
+  -- where all 512 nodes are the first or the last of their nets there are 256 nets, and else at most 255
+  pub nets-told : 512 ≤ length fs → (r : Bool) → MatchBool r (AllWithin Outer fs 0 (length fs)) ((k : ℕ) × (k < length fs) × HoldsAt Inner fs k) → r ≡ ltb 255 nets
+  nets-told q true h = sym (lt-ltb 255 nets (omega (arith, all-nets, betweens-none fs h)))
+  nets-told q false h = sym (le-ltb 255 nets (omega (arith, all-nets, c.few, betweens-some fs h.0 h.1 h.2)))

@@ -29,41 +29,28 @@ use Rattle.sheet.proofs.Scans.{entries_from}
 pub faultless-legal : {ku kl : ℕ} {fs : List ℕ} → Faultless ku kl fs → Legal ku kl 0 (entries_in fs)
 faultless-legal {ku} {kl} {fs} f = scan-legal ku kl 1 0 (entries_in fs) f.clear f.closed
 
--- the first n bytes are the fields of all nodes of a sheet without a fault
-pub record Whole (s fields : List ℕ) (n : ℕ) : Type 0 where
-  pub count : n ≡ length (take n fields)
-  pub clear : Faultless (upper_of s) (lower_of s) (take n fields)
-  pub entries : entries_in (take n fields) ≡ entries_of s
-
-pub whole : (s : List ℕ) {fields : List ℕ} {n : ℕ} → judge s ≡ none → Unpacked s fields → n ≡ count_of s → Whole s fields n
-whole s {fields} e u q =
+-- the first bytes are the fields of all nodes of a sheet without a fault
+pub faultless : (s : List ℕ) {fields : List ℕ} → judge s ≡ none → Unpacked s fields → Faultless (upper_of s) (lower_of s) (take (count_of s) fields)
+faultless s {fields} e u =
     let h = headed s (headless s e) in
     let l = (judge-passed s e).legal in
-    let long = length-take-le (count_of s) fields u.within in
-    rw q
-    (record {
-      count = sym long;
-      clear =
-          record {
-            upper = h.upper;
-            lower = h.lower;
-            few = omega (arith, h.high);
-            low = u.low;
-            clear = rw u.entries (legal-scan (upper_of s) (lower_of s) 1 l);
-            closed = rw u.entries (legal-open (upper_of s) (lower_of s) l);
-          };
-      entries = u.entries;
-    })
+    record {
+      upper = h.upper;
+      lower = h.lower;
+      few = omega (arith, h.high, length-take-le (count_of s) fields u.within);
+      clear = rw u.entries (legal-scan (upper_of s) (lower_of s) 1 l);
+      closed = rw u.entries (legal-open (upper_of s) (lower_of s) l);
+    }
 
--- their row and their nets are the sheet's
-module _ (s : List ℕ) {fields : List ℕ} {n : ℕ} (w : Whole s fields n) where
-  pub whole_row : row_in (take n fields) ≡ row_of s
+-- with a sheet's entries, their row and their nets are the sheet's
+module _ (s fs : List ℕ) (e : entries_in fs ≡ entries_of s) where
+  pub entries-row : row_in fs ≡ row_of s
   unfolding row_of pins_of
-  whole_row = ap (labels 0 []) w.entries
+  entries-row = ap (labels 0 []) e
 
-  pub whole-nets : begun_by 0 (entries_in (take n fields)) ≡ nets_of s
+  pub entries-nets : begun_by 0 (entries_in fs) ≡ nets_of s
   unfolding nets_of
-  whole-nets = ap (begun_by 0) w.entries
+  entries-nets = ap (begun_by 0) e
 
 -- ---- what a legal entry allows
 

@@ -38,11 +38,10 @@ pub record Unpacked (s fields : List ℕ) : Type 0 where
   pub low : Below 64 (take (count_of s) fields)
   pub entries : entries_in (take (count_of s) fields) ≡ entries_of s
 
--- at most 512 nodes with these fields, six bits each, have no fault under Ku and Kl, of at most three tracks, and no net is open after the last
+-- at most 512 nodes with these fields have no fault under Ku and Kl, of at most three tracks, and no net is open after the last
 pub record Faultless (ku kl : ℕ) (fs : List ℕ) : Type 0 where
   pub upper : ku ≤ 3
   pub lower : kl ≤ 3
   pub few : length fs ≤ 512
-  pub low : Below 64 fs
   pub clear : scan ku kl 1 0 (entries_in fs) ≡ none
   pub closed : left_open 0 (entries_in fs) ≡ 0

@@ -4,4 +4,5 @@
 pub mod agreement;
 pub mod inspect;
 pub mod layout;
+pub mod nodes;
 pub mod reader;

@@ -6,15 +6,16 @@ ghost use Rattle.street.specs.Places.{among, Places};
 use crate::power;
 use rules::{Kind, Streets};
 
-// The cells of a table of places: sixteen for each kind.
-const CELLS: usize = 64;
+// The numbers of open nets that a table of places has a cell for: from 0 to 15.
+const COUNTS: usize = 16;
 
-// What two streets allow: cell 16 · f + b is that of the kind with kind field f, where b nets are open before the node.
+// What two streets allow: cell b of a kind's row is that of the nodes before which b nets are open.
 #[derive(Clone, Copy)]
 pub struct LegalPlaces {
     pub streets: Streets,
-    cells: [u16; CELLS],
-    ghost places: { Places streets.upper streets.lower cells },
+    // The rows stand in the order of the kind fields.
+    rows: [[u16; COUNTS]; 4],
+    ghost places: { Places streets.upper streets.lower rows },
 }
 
 impl LegalPlaces {
@@ -26,16 +27,16 @@ impl LegalPlaces {
         let upper = streets.upper as usize;
         let lower = streets.lower as usize;
         let most = upper + lower;
-        let mut cells = [0u16; CELLS];
+        let mut rows = [[0u16; COUNTS]; 4];
         for b in 0..most {
             let places = places_among(upper, lower, b);
-            cells[b] = places;
-            cells[17 + b] = places;
-            cells[33 + b] = places;
-            cells[48 + b] = places;
+            rows[Kind::B as usize][b] = places;
+            rows[Kind::M as usize][b + 1] = places;
+            rows[Kind::N as usize][b] = places;
         }
-        cells[48 + most] = places_among(upper, lower, most);
-        LegalPlaces { streets, cells }
+        rows[Kind::E as usize] = rows[Kind::M as usize];
+        rows[Kind::N as usize][most] = places_among(upper, lower, most);
+        LegalPlaces { streets, rows }
     }
 
     // Whether the limits allow so many wires above a node of this kind, before which b nets are open.
@@ -43,11 +44,12 @@ impl LegalPlaces {
         requires { (above < 16) × (b < 16) }
         ensures { result ≡ fits_at kind self.now.streets.upper self.now.streets.lower (suc above) (counted kind b) }
     {
-        (self.cells[16 * (kind as usize) + b] >> above) % 2 == 1
+        let row = &self.rows[kind as usize];
+        (row[b] >> above) % 2 == 1
     }
 }
 
-// The places among b wires: at most Ku above, and at most Kl below.
+// The places among b wires: at most Ku above, and at most Kl below. Ku and Kl come as the numbers that `new` counts by, with the bound of Ku.
 fn places_among(upper: usize, lower: usize, b: usize) -> u16
     requires { (upper ≤ 3) × (b ≤ upper + lower) }
     ensures { result ≡ among upper lower b }

@@ -1,17 +1,12 @@
 -- `sheet::inspect::judge_nodes` meets its contract, by the invariant of Invariants.antt. Assumes nothing.
 use native.Mathlib.Omega.{arith}
-use Rattle.rules.proofs.Fields.{below_at}
 use Rattle.sheet.proofs.Scans.{ends_open, scan_step, scan-stops, scan-fault, scan-end}
 use Rattle.sheet.proofs.inspect.judge_nodes.Goals as goal
-
-pub kind_of-kind-requires : goal.kind_of-kind-requires
-kind_of-kind-requires c = below_at c.requires c.loop-i.i 0 (omega arith)
 
 pub fault_at-requires : goal.fault_at-requires
 fault_at-requires c =
     let r = rw c.new-legal.ensures at c.if-not-allows.ensures in
     record {
-      six_bits = below_at c.requires c.loop-i.i 0 (omega arith);
       few = omega arith;
       fault = scan-stops c.loop-i.invariant (omega arith) c.kind_of-kind.ensures c.above_of.ensures.above r;
     }
