@@ -8,15 +8,15 @@ use Rattle.rules.specs.Basic.{pick}
 use Rattle.rules.specs.declared.Kind.{Kind}
 use Rattle.rules.specs.declared.Kind.TheVariants.{B, M, E, N}
 use Rattle.rules.specs.Street.{counted}
-use Rattle.rules.specs.Film.{target, height_at}
+use Rattle.rules.specs.Film.{upper, upper_at, target, height_at}
 use Rattle.rules.proofs.Fits.{counted-le}
-use Rattle.film.specs.declared.moves.Node.{Node}
+use Rattle.film.specs.declared.node.Node.{Node}
 use Rattle.film.specs.Moves.{aim, Fitting}
 
 -- fewer wires fit where more do
 pub fitting-less : {n : Node} {b c : ℕ} → Fitting n b → c ≤ b → Fitting n c
 unfolding counted
-fitting-less {n} {b} {c} f h = record { upper = f.upper; deep = go n.kind f.deep }
+fitting-less {n} {b} {c} f h = record { deep = go n.kind f.deep }
   where
     go : (k : Kind) → counted k b ≤ n.upper + 3 → counted k c ≤ n.upper + 3
     go B l = omega arith
@@ -50,3 +50,10 @@ module _ (n : Node) (q : ℕ) where
       go M e = refl
       go E e = refl
       go N e = refl
+
+pub upper-few : (k : Kind) (ku a : ℕ) → ku ≤ 3 → a ≤ 3 → upper_at k ku a ≤ 3
+unfolding upper upper_at
+upper-few B ku a h l = omega arith
+upper-few M ku a h l = omega arith
+upper-few E ku a h l = omega arith
+upper-few N ku a h l = l

@@ -4,18 +4,17 @@ use mathlib.Core.List.{List, [], ◌∷◌}
 use mathlib.Core.Option.{none, some}
 use Prim.Native.Nat.{ℕ, suc, ◌*◌, ◌≤◌, ◌<◌}
 use native.Mathlib.Omega.{arith}
-use lib.ListN.{length, take}
+use lib.ListN.{length}
 use borrow.Author.Tests.{lt-ltb, le-ltb}
 use Rattle.std.specs.declared.result.Result.TheVariants.{Ok, Err}
 use Rattle.rules.specs.declared.Fault.{Fault}
 use Rattle.rules.specs.declared.DrawError.{DrawError}
 use Rattle.rules.specs.Basic.{keep, or_else, settle}
-use Rattle.rules.specs.Sheet.{upper_of, lower_of}
+use Rattle.rules.specs.Sheet.{upper_of, entries_of}
 use Rattle.rules.specs.Film.{Rec, rec_bits, records, film_bytes}
 use Rattle.rules.specs.Judgement.{judge}
 use Rattle.rules.specs.Answers.{written, drawing, Reordered, FilmAfter}
-use Rattle.sheet.specs.Fields.{Faultless}
-use Rattle.sheet.proofs.Walks.{Whole}
+use Rattle.sheet.specs.Fields.{entries_in}
 use Rattle.slots.specs.Stamps.{stamp, stamped}
 use Rattle.slots.proofs.FilmBytes.{row_written}
 use Rattle.wires.specs.Laying.{in_row}
@@ -38,13 +37,10 @@ reordered-same (x ∷ l) = Reordered.cons (reordered-same l)
 
 -- ---- a sheet's nodes
 
-module _ (s : List ℕ) {fields : List ℕ} {n ku : ℕ} (w : Whole s fields n) (e : ku ≡ upper_of s) where
-  pub nodes-clear : (kl : ℕ) × Faultless ku kl (take n fields)
-  nodes-clear = (lower_of s, rw e w.clear)
-
-  pub nodes-records : records_in ku (take n fields) ≡ records pitch s
-  unfolding records
-  nodes-records = rw (e, w.entries)
+-- with a sheet's entries, their records are the sheet's
+pub nodes-records : (s fs : List ℕ) {ku : ℕ} → ku ≡ upper_of s → entries_in fs ≡ entries_of s → records_in ku fs ≡ records pitch s
+unfolding records
+nodes-records s fs e p = rw (e, p)
 
 -- ---- the answers
 

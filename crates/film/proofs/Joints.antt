@@ -15,7 +15,7 @@ use Rattle.rules.specs.Film.{axis, height_at, across, upright, rec_bits, Wire, r
 use Rattle.rules.proofs.Lists.{length-put, length_cut, get_or-put}
 use Rattle.slots.specs.Stamps.{stamp}
 use Rattle.film.specs.declared.moves.Pen.{Pen}
-use Rattle.film.specs.declared.moves.Node.{Node}
+use Rattle.film.specs.declared.node.Node.{Node}
 use Rattle.film.specs.Stamps.{laid}
 use Rattle.film.specs.Wires.{missing, wire_at}
 use Rattle.film.specs.Moves.{SameFilm}

@@ -1,7 +1,7 @@
-pub mod Cells
 pub mod Aims
-pub mod Sweeps
-pub mod Steadiness
-pub mod Joints
-pub mod Trips
 pub mod Finish
+pub mod Insertions
+pub mod Joints
+pub mod Steadiness
+pub mod Sweeps
+pub mod Trips

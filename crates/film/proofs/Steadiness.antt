@@ -7,10 +7,13 @@ use native.Mathlib.Nat.{add-zero}
 use native.Mathlib.Omega.{arith}
 use lib.ListN.{length, get_or}
 use borrow.Author.Tests.{le-ltb}
+use Rattle.std.specs.Bool.{MatchBool}
+use Rattle.std.specs.List.{AllWithin, range_with_len}
+use Rattle.std.proofs.lemmas.List.FromFn.{get_or-range_with_len, length-range_with_len}
 use Rattle.rules.specs.Basic.{pick}
 use Rattle.rules.specs.Film.{Wire, Sweep, bent, drawn, climb, sink, gap}
 use Rattle.film.specs.declared.moves.Pen.{Pen}
-use Rattle.film.specs.declared.moves.Node.{Node}
+use Rattle.film.specs.declared.node.Node.{Node}
 use Rattle.film.specs.Stamps.{laid}
 use Rattle.film.specs.Wires.{missing}
 use Rattle.film.specs.Moves.{aim, Reaches, Steady, Swept}
@@ -65,3 +68,12 @@ steady-swept n p k h r =
 pub steady-reaches : (n : Node) (ws : List Wire) (b : Bool) → Steady n ws b → b ≡ true → Reaches n ws
 steady-reaches n ws true r e = r
 steady-reaches n ws false r e = let z : ◌≡◌ {A = ℕ} 0 1 = cc in absurd (omega arith)
+
+-- where a test passes at each place, every wire has its height
+pub all_steady : (n : Node) (ws : List Wire) (k : ℕ) (b : Bool) (Q : Type 0) → length ws ≤ k
+    → MatchBool b (AllWithin (λ q. (get_or ws q missing).height ≡ aim n q) (range_with_len 0 k) 0 (length (range_with_len 0 k))) Q → Steady n ws b
+all_steady n ws k true Q h all = λ q l.
+    let z : 0 + q ≡ q = omega arith in
+    let e : get_or (range_with_len 0 k) q 0 ≡ q = get_or-range_with_len 0 k q 0 (omega arith) ∙ z in
+    rw e at (all q 0 (omega arith) (omega (arith, length-range_with_len 0 k)))
+all_steady n ws k false Q h all = tt

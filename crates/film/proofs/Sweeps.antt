@@ -143,17 +143,6 @@ module _ (t : ℕ → ℕ) (p₀ : Pen) where
           room = omega (arith, step_room p q s, c.room);
         })
 
-  -- the test is on heights that are known to be these
-  module _ (p : Pen) (q : ℕ) (c : Climbing p q) (h : q < length p.wires) {o n : ℕ} (old : o ≡ (wire_at p.wires q).height) (new : n ≡ t q) where
-    tested : ltb o n ≡ ltb (wire_at p.wires q).height (t q)
-    tested = ap₂ ltb old new
-
-    pub climb-moved : (r : Pen) → ltb o n ≡ true → Stepped true n q p r → Climbing r (q + 1)
-    climb-moved r e s = climb-step p r q c h (step-as p q (sym e ∙ tested) new s)
-
-    pub climb-rested : ltb o n ≡ false → Climbing p (q + 1)
-    climb-rested e = climb-step p p q c h (step-rests p q (ltb (wire_at p.wires q).height (t q)) (t q) (sym tested ∙ e))
-
   pub climb-end : (p : Pen) (q : ℕ) → Climbing p q → length p₀.wires ≤ q → Swept goal (length p₀.wires) p₀ p
   unfolding climb laid
   climb-end p q c h =
@@ -294,17 +283,6 @@ module _ (t : ℕ → ℕ) (p₀ : Pen) where
           across = omega (arith, step-across p q s, c.across);
           room = omega (arith, step_room p q s, c.room);
         }
-
-  -- the test is on heights that are known to be these
-  module _ (p : Pen) (m q : ℕ) (i : m ≡ suc q) (c : Sinking p m) {o n : ℕ} (old : o ≡ (wire_at p.wires q).height) (new : n ≡ t q) where
-    weighed : ltb n o ≡ ltb (t q) (wire_at p.wires q).height
-    weighed = ap₂ ltb new old
-
-    pub sink-moved : (r : Pen) → ltb n o ≡ true → Stepped true n q p r → Sinking r q
-    sink-moved r e s = sink-step p r m q i c (step-as p q (sym e ∙ weighed) new s)
-
-    pub sink-rested : ltb n o ≡ false → Sinking p q
-    sink-rested e = sink-step p p m q i c (step-rests p q (ltb (t q) (wire_at p.wires q).height) (t q) (sym weighed ∙ e))
 
 -- ---- a gap
 

@@ -12,7 +12,6 @@ use Rattle.rules.specs.Street.{last, counted}
 use Rattle.rules.specs.Sheet.{kind_in, Entry, entry, begun}
 use Rattle.rules.specs.Judgement.{left}
 use Rattle.rules.specs.Film.{upper_at, Rec, Wire, Sweep, gap, marks, draw}
-use Rattle.rules.proofs.Fields.{below_at}
 use Rattle.rules.proofs.Fits.{FitsAt}
 use Rattle.rules.proofs.Levels.{both-streets}
 use Rattle.rules.proofs.Legal.{Legal, then}
@@ -21,7 +20,7 @@ use Rattle.sheet.specs.Told.{kind_at, above_at}
 use Rattle.sheet.proofs.Walks.{faultless-legal, legal-few}
 use Rattle.sheet.proofs.Scans.{entries_from, entries-end}
 use Rattle.film.specs.declared.moves.Pen.{Pen}
-use Rattle.film.specs.declared.moves.Node.{Node}
+use Rattle.film.specs.declared.node.Node.{Node}
 use Rattle.film.specs.Stamps.{each, laid}
 use Rattle.film.specs.Moves.{aim, Able, SameFilm, Started, Swept}
 use Rattle.film.specs.Nodes.{own, shown, going, Joinable, Joined}
@@ -166,9 +165,6 @@ module _ {ku kl : ℕ} (fs : List ℕ) (p₀ : Pen) (d : Faultless ku kl fs) whe
       }
 
   module _ (i : ℕ) (w : Pen) (m : Walking i w) (h : i < length fs) where
-    pub walk-low : get_or fs i 0 < 64
-    walk-low = below_at d.low i 0 h
-
     -- at most three wires stand above the node's
     pub walk-above : above_at (entry_in (get_or fs i 0)) ≤ 3
     walk-above = omega (arith, legal-above (rw (entries_from fs i h) at m.legal), d.upper)
@@ -189,7 +185,7 @@ module _ {ku kl : ℕ} (fs : List ℕ) (p₀ : Pen) (d : Faultless ku kl fs) whe
           record {
             stands = f.high;
             few = omega (arith, f.sum, d.upper, d.lower);
-            fitting = record { upper = omega (arith, t.upper, u.0, d.upper); deep = omega (arith, t.upper, u.1, d.lower) };
+            fitting = record { deep = omega (arith, t.upper, u.1, d.lower) };
             small = go n.kind (legal-few rest);
             near = omega (arith, d.few);
             column = m.column;

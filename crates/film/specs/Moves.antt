@@ -5,7 +5,7 @@ use Rattle.rules.specs.Street.{counted}
 use Rattle.rules.specs.Film.{target, bent, drawn, Sweep, Wire}
 use Rattle.slots.specs.Stamps.{columns}
 use Rattle.film.specs.declared.moves.Pen.{Pen}
-use Rattle.film.specs.declared.moves.Node.{Node}
+use Rattle.film.specs.declared.node.Node.{Node}
 use Rattle.film.specs.Stamps.{most, laid}
 use Rattle.film.specs.Wires.{wire_at}
 
@@ -13,9 +13,8 @@ use Rattle.film.specs.Wires.{wire_at}
 abbrev pub aim : Node → ℕ → ℕ
 aim n q = target n.kind n.upper n.above q
 
--- the wires at a node, of which b were open before it, are on levels from −3 to 3
+-- the wires at a node, of which b were open before it, are on no level under −3
 pub record Fitting (n : Node) (b : ℕ) : Type 0 where
-  pub upper : n.upper ≤ 3
   pub deep : counted n.kind b ≤ n.upper + 3
 
 -- k more moves can be drawn

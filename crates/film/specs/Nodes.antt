@@ -8,7 +8,7 @@ use Rattle.rules.specs.Film.{axis, height_at, Rec, Wire, ran, wall, opened, clos
 use Rattle.street.specs.Order.{capacity}
 use Rattle.slots.specs.Stamps.{columns}
 use Rattle.film.specs.declared.moves.Pen.{Pen}
-use Rattle.film.specs.declared.moves.Node.{Node}
+use Rattle.film.specs.declared.node.Node.{Node}
 use Rattle.film.specs.Stamps.{most, laid}
 use Rattle.film.specs.Wires.{wire_at}
 use Rattle.film.specs.Moves.{Fitting, SameFilm}

@@ -9,7 +9,7 @@ use Rattle.rules.specs.Answers.{drawing, FilmAfter}
 use Rattle.street.specs.Order.{capacity}
 use Rattle.sheet.specs.Fields.{entries_in}
 use Rattle.sheet.specs.Told.{kind_at, above_at}
-use Rattle.film.specs.declared.moves.Node.{Node}
+use Rattle.film.specs.declared.node.Node.{Node}
 use Rattle.film.specs.declared.moves.Pen.{Pen}
 use Rattle.film.specs.Stamps.{each, laid}
 use Rattle.film.specs.Moves.{aim, Fitting, SameFilm}

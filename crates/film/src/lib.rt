@@ -3,5 +3,6 @@
 
 pub mod drawer;
 pub mod moves;
+pub mod node;
 pub mod nodes;
 pub mod open_wires;

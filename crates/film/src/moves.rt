@@ -1,14 +1,20 @@
 // The gap before a node: wires going up move first, topmost first, then wires going down, bottommost first.
-ghost use Rattle.std.specs.Prelude.{◌≡◌, true, suc, ◌+◌, ◌-◌, ◌≤◌, ◌<◌, length, []};
+ghost use Rattle.std.specs.Prelude.{◌≡◌, Bool, true, suc, ◌+◌, ◌-◌, ◌≤◌, ◌<◌, length, [], ltb, ◌==◌};
 ghost use Rattle.rules.specs.Film.{climb as climbing, sink as sinking, gap};
+ghost use Rattle.film.specs.Wires.{wire_at};
 ghost use Rattle.film.specs.Moves.{aim, Fitting, Able, Started, Stepped, Steady, Swept};
 
+use crate::node::Node;
 use crate::open_wires::Wires;
 use rules::Kind;
 use slots::levels::{Level, level_at, rises};
 use slots::records::{put_across, put_wall};
 
-// The film so far: the bytes that are lent, the open wires, the next free column, and the numbers of records drawn and of nets begun.
+// What the contracts of a gap ask, that a node fits so many wires (`Fitting`) and that so many more moves can be drawn (`Able`), changes from step to step,
+// so that it is no invariant of a node or a pen.
+
+// The film so far: the bytes that are lent, the open wires, the next free column, and the numbers of records drawn and of nets begun. The film may be shorter than what is
+// drawn, so that the records are counted beside it and it is no list.
 #[derive(Drop)]
 pub struct Pen<'a> {
     pub film: &'a mut [u8],
@@ -16,14 +22,6 @@ pub struct Pen<'a> {
     pub column: u16,
     pub drawn: usize,
     pub begun: usize,
-}
-
-// A node of a sheet: its kind, the number of wires in the upper street, and of those above it.
-#[derive(Clone, Copy)]
-pub struct Node {
-    pub kind: Kind,
-    pub upper: usize,
-    pub above: usize,
 }
 
 impl<'a> Pen<'a> {
@@ -59,27 +57,31 @@ impl<'a> Pen<'a> {
         requires { Able self.old (length self.old.wires) × Fitting node (length self.old.wires) }
         ensures { Swept (climbing (aim node) 0 self.old.column self.old.wires) (length self.old.wires) self.old self.new }
     {
-        // A step changes the wires, so none of them is held over it.
         for q in 0..self.wires.len() {
-            let level = target(node, q);
-            let up = rises(self.wires.at(q).level, level);
-            if up {
-                self.step(q, level);
-            }
+            self.reach(node, q, rises);
         }
     }
 
-    // Moves the wires that go down, bottommost first.
+    // Moves the wires that go down, bottommost first. The two loops stay two: the definition counts a climb from the top and a sink from the bottom, and
+    // one loop over places in any order would be neither.
     fn sink(&mut self, node: Node)
         requires { Able self.old (length self.old.wires) × Fitting node (length self.old.wires) }
         ensures { Swept (sinking (aim node) 0 self.old.column self.old.wires) (length self.old.wires) self.old self.new }
     {
         for q in (0..self.wires.len()).rev() {
-            let level = target(node, q);
-            let down = rises(level, self.wires.at(q).level);
-            if down {
-                self.step(q, level);
-            }
+            self.reach(node, q, falls);
+        }
+    }
+
+    // Moves the wire with q above it to the level that it has at a node, where the test says that it goes there from its own.
+    fn reach<F: Fn(Level, Level) -> bool>(&mut self, node: Node, q: usize, goes: F)
+        requires { Able self.old 1 × Fitting node (suc q) × (q < length self.old.wires) × F.IsAlwaysCallable goes }
+        ensures { (b : Bool) × F.post goes (wire_at self.old.wires q).height (aim node q) b × Stepped b (aim node q) q self.old self.new }
+    {
+        let from = self.wires.at(q).level;
+        let to = target(node, q);
+        if goes(from, to) {
+            self.step(q, to);
         }
     }
 
@@ -105,23 +107,31 @@ impl<'a> Pen<'a> {
             level,
             wire.level,
         );
-        self.wires = self.wires.bend(q, level, self.column);
+        self.wires.bend(q, level, self.column);
         self.column += 1;
         self.drawn += 2;
     }
 }
 
-// Whether every wire has the level already that it has at a node: most gaps are so, and are passed over at once.
+// Whether level b is below level a, by `rises`, which tells why not by `<`.
+fn falls(a: Level, b: Level) -> bool
+    ensures { result ≡ ltb b a }
+{
+    rises(b, a)
+}
+
+// Whether every wire has the level already that it has at a node: most gaps are so, and are passed over at once. The wires are taken by their places,
+// by which `target` tells a level: with `iter().enumerate()`, which proves as well, the drawer takes 5 instructions a record more.
 fn is_steady(wires: &Wires, node: Node) -> bool
     requires { Fitting node (length wires.now) }
     ensures { Steady node wires.now result }
 {
-    for (q, wire) in wires.as_slice().iter().enumerate() {
-        if wire.level != target(node, q) {
-            return false;
-        }
-    }
-    true
+    (0..wires.len()).all(
+        |q|
+            requires { (q < length wires.now) × Fitting node (suc q) }
+            ensures { result ≡ (wire_at wires.entry.now q).height == aim node q }
+        { wires.at(q).level == target(node, q) },
+    )
 }
 
 // The level at a node of the wire that has q above it before: a new wire stands between those above it and those below.

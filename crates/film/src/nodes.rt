@@ -1,10 +1,11 @@
-// A node: at a B its wire is put in, a stub joins it to its pin, and at an E its last run ends and it is taken out; at a blank nothing is drawn.
+// A node, whose column is x: at a B its wire is put in, a stub joins it to its pin, and at an E its last run ends and it is taken out; at a blank nothing is drawn.
 ghost use Rattle.std.specs.Prelude.{◌≡◌, ◌<◌};
 ghost use Rattle.rules.specs.declared.Kind.TheVariants.{B};
 ghost use Rattle.slots.specs.Stamps.{columns};
 ghost use Rattle.film.specs.Nodes.{Open, Joinable, Joined, Stubbed, Ended, Skipped};
 
-use crate::moves::{Node, Pen};
+use crate::moves::Pen;
+use crate::node::Node;
 use crate::open_wires::Wire;
 use slots::levels::{level_at, level_of_pins};
 use slots::records::{put_across, put_wall};
@@ -21,7 +22,7 @@ impl Pen<'_> {
             level,
             start: x,
         };
-        self.wires = self.wires.insert(node.above, wire);
+        self.wires.insert(node.above, wire);
         self.begun += 1;
         self.pass(node.above, x);
     }
@@ -52,7 +53,7 @@ impl Pen<'_> {
         self.pass(above, x);
         let wire = self.wires.at(above);
         put_across(self.film, self.drawn, wire.net, wire.level, wire.start, x);
-        self.wires = self.wires.remove(above);
+        self.wires.remove(above);
         self.drawn += 1;
     }
 

@@ -4,14 +4,15 @@ ghost use Rattle.rules.specs.Basic.{put, cut};
 ghost use Rattle.rules.specs.Film.{bent};
 ghost use Rattle.street.specs.Order.{capacity};
 ghost use Rattle.slots.specs.Stamps.{columns};
-ghost use Rattle.film.specs.Wires.{missing, wire_at};
+ghost use Rattle.film.specs.Wires.{wire_at};
 
-use slots::levels::{Level, level_of_pins};
+use arrayvec::ArrayVec;
+use slots::levels::Level;
 use std::marker::Model;
 use street::CAPACITY;
 
-// An open wire. Contracts see it as the wire of which the film's definition speaks.
-#[derive(Clone, Copy)]
+// An open wire; the default stands where none is open, and nothing is drawn of it. Contracts see a wire as the one of which the film's definition speaks.
+#[derive(Clone, Copy, Default)]
 pub struct Wire {
     pub net: u8,
     pub level: Level,
@@ -32,31 +33,19 @@ impl Model for Wire {
     ghost inverse = { λ w. record { net = w.net; level = w.height; start = w.since } };
 }
 
-// The open wires, which a contract sees as their list, from top to bottom: they are counted, and the cells behind them are free: there is no heap.
-#[derive(Clone, Copy)]
+// The open wires, which a contract sees as their list, from top to bottom.
+#[derive(Drop)]
 pub struct Wires {
-    cells: [Wire; CAPACITY],
-    count: usize,
+    list: ArrayVec<Wire, CAPACITY>,
 }
 
 impl Model for Wires {
-    ghost use Rattle.std.specs.Prelude.{◌≡◌, List, ◌≤◌, length, take};
-    ghost use Rattle.std.proofs.Common.{arith, sym, length-take-le};
+    ghost use Rattle.std.specs.Prelude.{List};
     ghost use Rattle.rules.specs.Film.{Wire};
-    ghost use Rattle.film.specs.Wires.{cells_with, Sound};
 
     ghost Value = { List Wire };
 
-    ghost view = { λ a. take a.count a.cells };
-
-    ghost invariant = { λ a. Sound a.cells a.count };
-
-    ghost inverse = { λ l. record { cells = cells_with l; count = length l } };
-
-    ghost inverse_ok = { λ a h i. record {
-      cells = sym h.free i;
-      count = length-take-le a.count a.cells (omega (arith, h.long, h.few)) i;
-    } };
+    ghost view = { λ a. a.list.items };
 }
 
 impl Wires {
@@ -65,8 +54,7 @@ impl Wires {
         ensures { result ≡ [] }
     {
         Wires {
-            cells: [free(); CAPACITY],
-            count: 0,
+            list: ArrayVec::new(),
         }
     }
 
@@ -74,7 +62,7 @@ impl Wires {
     pub fn as_slice(&self) -> &[Wire]
         ensures { result.now ≡ self.now }
     {
-        &self.cells[..self.count]
+        self.list.as_slice()
     }
 
     // Their number.
@@ -89,58 +77,32 @@ impl Wires {
         requires { k < length self.now }
         ensures { result ≡ wire_at self.now k }
     {
-        let cells = &self.cells;
-        cells[k]
+        let wires = self.as_slice();
+        wires[k]
     }
 
-    // The wires with one more behind k others.
-    pub fn insert(self, k: usize, wire: Wire) -> Wires
-        requires { (length self < capacity) × (k ≤ length self) }
-        ensures { result ≡ put k wire self }
+    // Puts one more wire in behind k others.
+    pub fn insert(&mut self, k: usize, wire: Wire)
+        requires { (length self.old < capacity) × (k ≤ length self.old) }
+        ensures { self.new ≡ put k wire self.old }
     {
-        let mut cells = self.cells;
-        cells.copy_within(k..self.count, k + 1);
-        cells[k] = wire;
-        Wires {
-            cells,
-            count: self.count + 1,
-        }
+        self.list.insert(k, wire);
     }
 
-    // The wires without the one behind k others.
-    pub fn remove(self, k: usize) -> Wires
-        requires { k < length self }
-        ensures { result ≡ cut k self }
+    // Takes out the wire behind k others.
+    pub fn remove(&mut self, k: usize)
+        requires { k < length self.old }
+        ensures { self.new ≡ cut k self.old }
     {
-        let mut cells = self.cells;
-        let last = self.count - 1;
-        cells.copy_within(k + 1..self.count, k);
-        cells[last] = free();
-        Wires { cells, count: last }
+        self.list.remove(k);
     }
 
-    // The wires with the one behind k others on another level, where its run begins.
-    pub fn bend(self, k: usize, level: Level, start: u16) -> Wires
-        requires { (k < length self) × (start < columns) }
-        ensures { result ≡ set self k (bent true level start (wire_at self k)) }
+    // Puts the wire behind k others on another level, where its run begins.
+    pub fn bend(&mut self, k: usize, level: Level, start: u16)
+        requires { (k < length self.old) × (start < columns) }
+        ensures { self.new ≡ set self.old k (bent true level start (wire_at self.old k)) }
     {
-        let mut cells = self.cells;
         let net = self.at(k).net;
-        cells[k] = Wire { net, level, start };
-        Wires {
-            cells,
-            count: self.count,
-        }
-    }
-}
-
-// What a free cell holds.
-fn free() -> Wire
-    ensures { result ≡ missing }
-{
-    Wire {
-        net: 0,
-        level: level_of_pins(),
-        start: 0,
+        self.list.as_mut_slice()[k] = Wire { net, level, start };
     }
 }

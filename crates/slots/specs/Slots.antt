@@ -1,7 +1,7 @@
 -- The film and the arrays by net that say where its records go, as the laying that they are, and what the functions on one net's records ensure.
 use Rattle.std.specs.Prelude.{◌≡◌, List, [], ◌∷◌, ℕ, zero, suc, ◌+◌, ◌≤◌, ◌<◌, min, max, length, get_or, set, replicate}
 use Rattle.rules.specs.Film.{Rec, across, upright, axis}
-use Rattle.wires.specs.Laying.{Laying, laid, in_slot}
+use Rattle.wires.specs.Laying.{Laying, laid}
 use Rattle.slots.specs.Stamps.{columns, stamped}
 
 -- what is lent: the film's bytes, and by net the slot of its next record, the slot that its open run holds, 0 for none, and the column where that run began
@@ -46,11 +46,6 @@ pub record Laid (rs : List Rec) (k : ℕ) (p r : Lent) : Type 0 where
 -- a vertical between heights a and b
 abbrev pub vertical : (net a b x : ℕ) → Rec
 vertical net a b x = upright net (min a b) x (max a b)
-
--- the stub of a net on height h was put in its next slot, on the film f by the slots ns
-pub record Stub (net h x : ℕ) (f ns f' ns' : List ℕ) : Type 0 where
-  pub film : f' ≡ in_slot stamped (read ns net) (vertical net axis h x) f
-  pub next : ns' ≡ set ns net (read ns net + 1)
 
 -- the net's run on height o ended at column x, where a vertical leads to height h and a run begins
 pub record Turned (net o h x : ℕ) (p r : Lent) : Type 0 where

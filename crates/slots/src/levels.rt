@@ -5,8 +5,8 @@ ghost use Rattle.rules.specs.Film.{axis, upper_at, height_at};
 use rules::Kind;
 use std::marker::Model;
 
-// A level from −3 to 3. Contracts see it as its height, level + 4, of which the film's definition speaks.
-#[derive(Clone, Copy, PartialEq, Eq, PartialOrd, Ord)]
+// A level from −3 to 3, of which the level of the pins is the default. Contracts see it as its height, level + 4, of which the film's definition speaks.
+#[derive(Clone, Copy, Default, PartialEq, Eq, PartialOrd, Ord)]
 pub struct Level(i8);
 
 impl Model for Level {
@@ -33,6 +33,7 @@ pub fn level_of_pins() -> Level
 }
 
 // u, the number of wires in the upper street, at a node by its kind: the smaller of p and Ku, at a blank all wires above it.
+// It asks of Ku alone that it is at most 3: `Streets` would ask the same of Kl, which does not count here.
 pub fn upper_at(kind: Kind, ku: usize, above: usize) -> usize
     requires { (ku ≤ 3) × (above ≤ 3) }
     ensures { result ≡ upper_at kind ku above }
@@ -54,7 +55,7 @@ pub fn level_at(u: usize, q: usize) -> Level
     Level(-((q - u) as i8))
 }
 
-// Whether level b is above level a.
+// Whether level b is above level a. Its contract compares heights; of `a < b` a caller's proof would have the order of signed levels.
 pub fn rises(a: Level, b: Level) -> bool
     ensures { result ≡ ltb a b }
 {
@@ -62,8 +63,10 @@ pub fn rises(a: Level, b: Level) -> bool
 }
 
 // A level as the film's field has it.
-pub fn height(level: Level) -> u16
-    ensures { (result ≡ level) × (result ≤ 7) }
-{
-    (level.0 + 4) as u16
+impl From<Level> for u16 {
+    ghost from_gives = { λ a r. (r ≡ a) × (r ≤ 7) };
+
+    fn from(level: Level) -> u16 {
+        (level.0 + 4) as u16
+    }
 }

@@ -1,6 +1,12 @@
--- `film::drawer::node_of` meets its contract. Assumes nothing.
+-- `film::drawer::node_of` meets its contract: of Ku tracks at most 3 are taken (`upper-few`). Assumes nothing.
 use native.Mathlib.Omega.{arith}
+use Rattle.film.proofs.Aims.{upper-few}
 use Rattle.film.proofs.drawer.node_of.Goals as goal
 
+pub invariant_of-result : goal.invariant_of-result
+invariant_of-result c = record {
+  upper_few = omega (arith, c.upper_at.ensures, upper-few c.kind_of-kind.result c.args.ku c.from-above.result c.requires.0 (omega (arith, c.from-above.ensures, c.above_of.ensures.above, c.requires)));
+}
+
 pub upper_at-requires : goal.upper_at-requires
-upper_at-requires c = omega (arith, c.from-above.ensures, c.above_of.ensures.above, c.requires.within)
+upper_at-requires c = omega (arith, c.from-above.ensures, c.above_of.ensures.above, c.requires)

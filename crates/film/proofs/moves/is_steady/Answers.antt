@@ -1,24 +1,23 @@
--- `film::moves::is_steady` meets its contract, by the invariant of Invariants.antt. Assumes nothing.
-use mathlib.Core.Path.{sym, ap, ◌∙◌}
-use Rattle.std.proofs.Common.{below_more}
-use Rattle.std.proofs.lemmas.List.{get_or_default}
-use Rattle.rules.specs.Film.{Wire}
-use Rattle.slots.proofs.Tracks.{level-same}
-use Rattle.film.specs.Wires.{missing}
+-- `film::moves::is_steady` meets its contract: where the test passes at each place, every wire has its height (`all_steady`). Assumes nothing.
+use mathlib.Core.Path.{◌≡◌, refl}
+use borrow.Author.Rules.{rules}
+use borrow.Author.Tests.{tests}
+use native.Mathlib.Omega.{arith}
+use Rattle.std.proofs.lemmas.Iterator.{serves_from_Range, cases_from_all, YieldsList-from_range}
+use Rattle.film.specs.Wires.{wire_at}
+use Rattle.film.specs.Moves.{aim}
 use Rattle.film.proofs.Aims.{fitting-less}
+use Rattle.film.proofs.Steadiness.{all_steady}
 use Rattle.film.proofs.moves.is_steady.Goals as goal
 
-pub target-requires : goal.target-requires
-target-requires c =
-    let within = rw c.as_slice-wire-items.ensures at c.loop-q-test.true in
-    fitting-less c.requires within
+pub all-requires-clause-callable : goal.all-requires-clause-callable
+all-requires-clause-callable c =
+    serves_from_Range (λ x q k. search rules) (λ x a b. (omega (arith, b, c.len.ensures), fitting-less c.requires (omega (arith, b, c.len.ensures))))
 
-pub loop-q-preserved : goal.loop-q-preserved
-loop-q-preserved c =
-    let ws = c.args.wires.now in
-    let q = c.loop-q.q in
-    let within = rw c.as_slice-wire-items.ensures at c.loop-q-test.true in
-    let item = rw c.as_slice-wire-items.ensures at c.wire-item.is in
-    let there = get_or_default ws q missing c.wire-item.result within ∙ sym item ∙ sym c.wire.view_is in
-    below_more _ _ c.loop-q.invariant
-    (ap (λ (v : Wire). v.height) there ∙ level-same c.wire.inside.level c.target.result (sym c.ne.ensures ∙ c.if-ne.false) ∙ c.target.ensures)
+pub returns : goal.returns
+returns c =
+    let a = c.args in
+    let n = c.len.result in
+    all_steady a.node a.wires.now n c.all.result _ (omega (arith, c.len.ensures))
+    (cases_from_all _ _ c.all.result (λ q. (wire_at a.wires.now q).height ≡ aim a.node q) (λ q. Unit {0}) c.all.ensures.ran
+    (YieldsList-from_range 0 n n refl (omega arith)) (λ x q k. search (rules, tests)) (λ x q k. tt))

@@ -6,8 +6,8 @@ use Rattle.slots.proofs.records.put_upright.Goals as goal
 pub returns : goal.returns
 returns c =
     let a = c.args in
-    let h = c.height in
-    let k = c.height-2 in
+    let h = c.from in
+    let k = c.from-2 in
     upright-put a.film.now c.put_record.new.film a.at a.net a.low a.column a.top
     h.result (omega (arith, c.ranges.net)) (omega (arith, h.ensures)) h.ensures.0 k.result k.ensures.0
     c.put_record.ensures

@@ -14,12 +14,12 @@ use Rattle.film.proofs.moves.Pen.begin.Goals as goal
 pub overflow_add-node : goal.overflow_add-node
 overflow_add-node c =
     let a = c.args in
-    omega (arith, begins-near a.node a.x a.self.now c.requires.0 c.requires.1, c.requires.0.fitting.upper)
+    omega (arith, begins-near a.node a.x a.self.now c.requires.0 c.requires.1, a.node.upper_few)
 
 pub level_at-level-requires : goal.level_at-level-requires
 level_at-level-requires c =
     let a = c.args in
-    omega (arith, begins-near a.node a.x a.self.now c.requires.0 c.requires.1, c.requires.0.fitting.upper)
+    omega (arith, begins-near a.node a.x a.self.now c.requires.0 c.requires.1, a.node.upper_few)
 
 pub overflow_cast-wire : goal.overflow_cast-wire
 overflow_cast-wire c =
@@ -33,8 +33,8 @@ overflow_add-self c =
     let f = begins-few a.node a.x a.self.now c.requires.0 c.requires.1 in
     omega (arith, f)
 
-pub insert-self-requires : goal.insert-self-requires
-insert-self-requires c =
+pub insert-requires : goal.insert-requires
+insert-requires c =
     let a = c.args in
     let f = begins-few a.node a.x a.self.now c.requires.0 c.requires.1 in
     (f.0, f.1)
@@ -43,7 +43,7 @@ pub pass-requires : goal.pass-requires
 pass-requires c =
     let a = c.args in
     let f = begins-few a.node a.x a.self.now c.requires.0 c.requires.1 in
-    let n = ap (λ (l : List Wire). length l) c.insert-self.ensures in
+    let n = ap (λ (l : List Wire). length l) c.insert.ensures in
     record { stands = omega (arith, n, length-put {A = Wire}, f); column = c.requires.0.column; room = c.requires.0.room }
 
 pub returns : goal.returns
@@ -51,5 +51,5 @@ returns c =
     let a = c.args in
     let p = a.self.now in
     let h = c.level_at-level.ensures ∙ ap (height_at a.node.upper) (add-one a.node.above) in
-    let list = c.insert-self.ensures ∙ ap (λ (z : ℕ). put a.node.above (record { net = a.self.now.begun; height = z; since = a.x }) p.wires) h in
+    let list = c.insert.ensures ∙ ap (λ (z : ℕ). put a.node.above (record { net = a.self.now.begun; height = z; since = a.x }) p.wires) h in
     joined-begins a.node a.x p c.requires.0 c.pass.new.self c.requires.1 _ list refl refl refl (add-one p.begun) c.pass.ensures

@@ -17,7 +17,7 @@ returns c =
     record {
       same = s.same;
       nets = s.nets;
-      wires = c.remove-self.ensures ∙ ap (λ (l : List Wire). cut a.above l) s.wires;
+      wires = c.remove.ensures ∙ ap (λ (l : List Wire). cut a.above l) s.wires;
       column = s.column;
       records = omega (arith, s.records);
       bytes = end-drawn p.film.now c.pass.new.self.film.now c.put_across.new.film p.drawn c.pass.new.self.drawn a.x there s.records s.bytes c.put_across.ensures;

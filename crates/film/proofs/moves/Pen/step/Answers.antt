@@ -16,8 +16,8 @@ returns c =
     record {
       same = refl;
       nets = refl;
-      count = ap (λ (l : List Wire). length l) c.bend-self.ensures ∙ length-set p.wires a.q _;
-      list = c.bend-self.ensures;
+      count = ap (λ (l : List Wire). length l) c.bend.ensures ∙ length-set p.wires a.q _;
+      list = c.bend.ensures;
       column = add-one p.column;
       records = refl;
       bytes = move-drawn p.film.now c.put_across.new.film c.put_wall.new.film p.drawn a.level p.column (c.wire.view_is ∙ c.at-wire.ensures) c.put_across.ensures c.put_wall.ensures;

@@ -1,9 +1,7 @@
 -- `film::moves::Pen::visit_all` meets its contract. The loop's invariant: the pen has come to node i, and what is drawn from there on leads to all
 -- records (`Walking`). Assumes nothing.
-use Prim.Native.Nat.{ℕ}
-use Rattle.sheet.specs.Fields.{Faultless}
 use Rattle.film.proofs.Trips.{Walking}
 use Rattle.film.proofs.moves.Pen.visit_all.Given as goal
 
 abbrev pub invariant-loop-i : goal.invariant-loop-i
-invariant-loop-i l = (kl : ℕ) × (d : Faultless l.ku kl l.fields) × Walking l.fields l.initial.self d l.i l.self
+invariant-loop-i l = Walking l.nodes.fields.now l.initial.self l.nodes.clear l.i l.self

@@ -1,6 +1,6 @@
--- `slots::levels::height` meets its contract: `field_is` over the seven levels. Assumes nothing.
+-- `u16::from` of a level meets its contract: `field_is` over the seven levels. Assumes nothing.
 use Rattle.slots.proofs.Tracks.{field-sums, field-small, field_is, field-low}
-use Rattle.slots.proofs.levels.height.Goals as goal
+use Rattle.slots.proofs.levels.U16FromLevel.from.Goals as goal
 
 pub overflow_add-result : goal.overflow_add-result
 overflow_add-result c = field-sums c.level.inside.0 c.level.invariant
