@@ -2,12 +2,12 @@
 #![tactic(auto)]
 
 ghost use Rattle.std.specs.Prelude.{◌≡◌, ◌+◌, ◌*◌, ◌%◌, ◌++◌, Some, codes, decimal};
-ghost use Rattle.rules.specs.Answers.{says, limit_number, fault_said, route_said, read_said, draw_said};
+ghost use Rattle.rules.specs.Answers.{says, fault_said, route_said, read_said, draw_said};
 
 use rules::{DrawError, Drawing, Fault, Limit, ReadError, Reading, RouteError, Routing};
 use std::fmt;
 
-// An answer in numbers: 0 or the cause, and the node, the count or 0 that goes with it.
+// An answer in numbers, which is how C is told: 0 or the cause, and the node, the count or 0 that goes with it.
 #[derive(Clone, Copy, Debug, PartialEq, Eq)]
 pub struct Said {
     pub number: u32,
@@ -72,14 +72,16 @@ impl From<Drawing> for Said {
 impl From<Fault> for Said {
     ghost from_gives = { λ e s. says s.number s.place ≡ fault_said e };
 
-    #[tactic(auto, unfolding(rules::specs::Answers::fault_said))]
+    #[tactic(auto, unfolding(rules::specs::Answers::fault_said, rules::specs::Answers::limit_number))]
     fn from(e: Fault) -> Said {
         match e {
             Fault::Head => tell(11, 0),
             Fault::Tracks => tell(12, 0),
             Fault::Length => tell(13, 0),
             Fault::Position(i) => tell(16, i),
-            Fault::Street(l, i) => tell(limit_number(l), i),
+            Fault::Street(Limit::Upper, i) => tell(17, i),
+            Fault::Street(Limit::Lower, i) => tell(30, i),
+            Fault::Street(Limit::Sum, i) => tell(31, i),
             Fault::Open(n) => tell(18, n),
             Fault::Padding => tell(19, 0),
             Fault::Nets => tell(23, 0),
@@ -96,15 +98,11 @@ impl From<Said> for u64 {
     }
 }
 
-#[tactic(auto, unfolding(rules::specs::Answers::limit_number))]
-fn limit_number(l: Limit) -> u32
-    ensures { result ≡ limit_number l }
+// Any answer as that number.
+pub fn code<A: Into<Said>>(answer: A) -> u64
+    ensures { (s : _) × A.converts answer s × (result ≡ s.number * 4294967296 + s.place % 4294967296) }
 {
-    match l {
-        Limit::Upper => 17,
-        Limit::Lower => 30,
-        Limit::Sum => 31,
-    }
+    u64::from(answer.into())
 }
 
 fn tell(number: u32, place: usize) -> Said

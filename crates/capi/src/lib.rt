@@ -8,7 +8,7 @@ ghost use Rattle.sheet.specs.GivenBack.{GivenBack};
 ghost use Rattle.film.specs.Walks.{Drawn};
 ghost use Rattle.capi.specs.Codes.{Handed};
 
-use answers::Said;
+use answers::code;
 use film::drawer::draw;
 use router::route;
 use sheet::agreement::agrees;
@@ -24,16 +24,14 @@ pub extern "C" fn niraflue_route(
 ) -> u64
     ensures { Handed (λ r. Routed row.now ku kl work.old sheet.old r work.new sheet.new) route_said result }
 {
-    let said = Said::from(route(row, ku, kl, work, sheet));
-    u64::from(said)
+    code(route(row, ku, kl, work, sheet))
 }
 
 #[unsafe(no_mangle)]
 pub extern "C" fn niraflue_read(sheet: &[u8], row: &mut [u8]) -> u64
     ensures { Handed (λ r. GivenBack sheet.now row.old r row.new) read_said result }
 {
-    let said = Said::from(read(sheet, row));
-    u64::from(said)
+    code(read(sheet, row))
 }
 
 #[unsafe(no_mangle)]
@@ -47,6 +45,5 @@ pub extern "C" fn niraflue_agrees(row: &[u8], sheet: &[u8]) -> bool
 pub extern "C" fn niraflue_draw(sheet: &[u8], film: &mut [u8]) -> u64
     ensures { Handed (λ r. Drawn sheet.now film.old r film.new) draw_said result }
 {
-    let said = Said::from(draw(sheet, film));
-    u64::from(said)
+    code(draw(sheet, film))
 }

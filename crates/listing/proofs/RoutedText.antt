@@ -6,7 +6,6 @@ use mathlib.Core.Option.{Option, none}
 use Prim.Native.Nat.{ℕ, suc, ◌*◌, ◌≤◌}
 use native.Mathlib.Omega.{arith}
 use lib.ListN.{length, take, drop, replicate, length-append, length-replicate}
-use lib.Seq.{length-take-le}
 use lib.Dec.{ltb}
 use Rattle.std.specs.declared.result.Result.TheVariants.{Ok, Err}
 use Rattle.rules.specs.Answers.{Routing}
@@ -23,8 +22,7 @@ use Rattle.rules.proofs.Demand3.{Checked, checked-fit, Answered, placed, stuck, 
 use Rattle.router.specs.Routed.{Routed}
 use Rattle.sheet.specs.Fields.{entries_in, Packed, Unpacked}
 use Rattle.listing.specs.Text.{head_line, node_lines, listed, answer, row_text}
-use Rattle.listing.specs.Wrote.{Wrote, Readable, Listable, Listing}
-use Rattle.listing.proofs.Writing.{wrote-more, wrote-listing}
+use Rattle.listing.specs.Wrote.{Readable, Listable, Listing}
 use Rattle.listing.proofs.FrontFields.{front-count, front-listed}
 
 -- ---- a sheet
@@ -38,23 +36,13 @@ pub readable-packed : {s : List ℕ} {n : ℕ} → Readable s n → (fields : Li
 unfolding size
 readable-packed r fields h = record { count = sym r.count; within = omega (arith, r.whole); room = omega (arith, r.few) }
 
--- there is an unpacked byte for each node
-pub unpacked-count : {s fields : List ℕ} {n : ℕ} → Readable s n → Unpacked s fields → n ≡ length (take n fields)
-unpacked-count {fields = fields} {n = n} r u = sym (length-take-le n fields (omega (arith, r.count, u.within)))
-
 -- heading and the lines of its unpacked nodes are the sheet's text
-pub sheet-listing : {s fields text text' text'' : List ℕ} {n : ℕ} (ku kl : ℕ) {mid end : ℕ} → Readable s n → Unpacked s fields → ku ≡ upper_of s → kl ≡ lower_of s
-    → Wrote text 0 (head_line n ku kl) text' mid → Wrote text' mid (node_lines 1 0 (entries_in (take n fields))) text'' end → end ≤ length text
-    → Listing (listed (Ok n) s) text text'' end
+pub sheet-text : {s fields : List ℕ} {n : ℕ} (ku kl : ℕ) → Readable s n → Unpacked s fields → ku ≡ upper_of s → kl ≡ lower_of s
+    → listed (Ok n) s ≡ head_line n ku kl ++ node_lines 1 0 (entries_in (take n fields))
 unfolding listed
-sheet-listing {s} {fields} {n = n} ku kl r u eu el w₁ w₂ h =
-    let e₁ : head_line n ku kl ≡ head_line n (upper_of s) (lower_of s) = ap₂ (head_line n) eu el in
-    let e₂ : entries_in (take n fields) ≡ entries_of s = ap (λ (k : ℕ). entries_in (take k fields)) (sym r.count) ∙ u.entries in
-    wrote-listing (wrote-more (rw e₁ at w₁) (rw e₂ at w₂)) h
-
--- the same answer has the same text
-pub answer-listing : (r r' : Routing) (s : List ℕ) {text text' : List ℕ} {end : ℕ} → r ≡ r' → Listing (listed r' s) text text' end → Listing (listed r s) text text' end
-answer-listing r r' s e l = rw e l
+sheet-text {s} {fields} {n} ku kl r u eu el =
+    let e : entries_in (take n fields) ≡ entries_of s = ap (λ (k : ℕ). entries_in (take k fields)) (sym r.count) ∙ u.entries in
+    rw (eu, el, e) refl
 
 -- ---- the router's answer
 

@@ -11,8 +11,7 @@ use Rattle.rules.specs.Bits.{digits, val, pack}
 use Rattle.rules.specs.Sheet.{kind_in, upper_of, lower_of, count_of, entry_at, entries_of}
 use Rattle.rules.specs.Judgement.{left}
 use Rattle.rules.specs.Answers.{route_said}
-use Rattle.std.specs.Fmt.{digits as std-digits}
-use Rattle.listing.specs.Text.{closed, line, sheet_word, refused_word, at_word, letter, place_in, head_line, node_line, open_after, node_lines, refused_line, listed}
+use Rattle.listing.specs.Text.{leading, decimal, closed, line, sheet_word, refused_word, at_word, letter, place_in, head_line, node_line, open_after, node_lines, refused_line, listed}
 
 unfoldable pub same : List ℕ → List ℕ → Bool
 same [] [] = true
@@ -57,5 +56,5 @@ stuck_text = 114 ∷ 101 ∷ 102 ∷ 117 ∷ 115 ∷ 101 ∷ 100 ∷ 32 ∷ 54 �
 
 pub specimens-hold : T (same (listed (Ok 6) example) example_text
     && (same (listed (Ok 6) blanks) blanks_text && same (listed (Err RowLength) []) row_length_text && same (listed (Err (Stuck 105)) []) stuck_text))
-unfolding same example example_text blanks blanks_text row_length_text stuck_text std-digits closed line sheet_word refused_word at_word letter place_in head_line node_line open_after node_lines refused_line listed pick tabulate counted digits val pack kind_in upper_of lower_of count_of entry_at entries_of left route_said
+unfolding same example example_text blanks blanks_text row_length_text stuck_text leading decimal closed line sheet_word refused_word at_word letter place_in head_line node_line open_after node_lines refused_line listed pick tabulate counted digits val pack kind_in upper_of lower_of count_of entry_at entries_of left route_said
 specimens-hold = tt

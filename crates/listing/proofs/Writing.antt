@@ -1,7 +1,7 @@
 -- Bytes that are put one after the other are put as one list, and bytes that are put at the start are written there.
 use mathlib.Core.Path.{◌≡◌, refl, sym, ap, ap₂, ◌∙◌}
 use mathlib.Core.List.{List, [], ◌∷◌, ◌++◌}
-use Prim.Native.Nat.{ℕ, suc, ◌+◌, ◌-◌, ◌≤◌, ◌<◌}
+use Prim.Native.Nat.{ℕ, suc, ◌+◌, ◌-◌, ◌≤◌}
 use native.Mathlib.Nat.{add-zero, zero-add}
 use native.Mathlib.Omega.{arith}
 use lib.ListN.{length, set, take, drop, length-append}
@@ -10,7 +10,9 @@ use Rattle.std.proofs.lemmas.List.{append_assoc}
 use borrow.Rule.Slice.PartMut.{put_mid}
 use Rattle.rules.specs.Answers.{written}
 use Rattle.listing.specs.Text.{closed}
-use Rattle.listing.specs.Wrote.{Wrote, Listing, IsPrefixLen}
+use Rattle.listing.specs.declared.put.Text.{Text}
+use Rattle.listing.specs.Wrote.{Listing, IsPrefixLen}
+use Rattle.listing.specs.Puts.{Room, Puts}
 
 sets-append : (a b text : List ℕ) (at : ℕ) → sets text at (a ++ b) ≡ sets (sets text at a) (at + length a) b
 sets-append [] b text at = ap (λ (k : ℕ). sets text k b) (sym (add-zero at))
@@ -18,52 +20,65 @@ sets-append (x ∷ a) b text at =
     let e : suc at + length a ≡ at + length (x ∷ a) = omega arith in
     sets-append a b (set text at x) (suc at) ∙ ap (λ (k : ℕ). sets (sets (set text at x) (suc at) a) k b) e
 
-pub wrote_none : (text : List ℕ) (at : ℕ) → Wrote text at [] text at
-wrote_none text at = record { is = refl; kept = refl; ends = sym (add-zero at) }
+module _ {new : List ℕ} {t t' : Text} (p : Puts new t t') where
+  pub puts-kept : length t'.bytes.now ≡ length t.bytes.now
+  puts-kept = ap length p.is ∙ length-sets t.bytes.now t.len new
 
-pub wrote-more : {text text' text'' a b : List ℕ} {at mid end : ℕ} → Wrote text at a text' mid → Wrote text' mid b text'' end → Wrote text at (a ++ b) text'' end
-wrote-more {text} {text'} {text''} {a} {b} {at} {mid} {end} p q =
+pub puts-none : (t : Text) → Puts [] t t
+puts-none t = record { same = refl; is = refl; len = sym (add-zero t.len) }
+
+pub puts-more : {t t' t'' : Text} {a b : List ℕ} → Puts a t t' → Puts b t' t'' → Puts (a ++ b) t t''
+puts-more {t} {t'} {t''} {a} {b} p q =
     record {
+      same = q.same ∙ p.same;
       is =
           q.is
-          ∙ ap₂ (λ (t : List ℕ) (k : ℕ). sets t k b) p.is p.ends
-          ∙ sym (sets-append a b text at);
-      kept = q.kept ∙ p.kept;
-      ends = omega (arith, p.ends, q.ends, length-append a b);
+          ∙ ap₂ (λ (l : List ℕ) (k : ℕ). sets l k b) p.is p.len
+          ∙ sym (sets-append a b t.bytes.now t.len);
+      len = omega (arith, p.len, q.len, length-append a b);
     }
 
+-- where two texts have room one behind the other, the first has, and behind it the second
+pub room-first : (a b : List ℕ) (t : Text) → Room (a ++ b) t → Room a t
+room-first a b t h = record { within = omega (arith, h.within, length-append a b) }
+
+pub room-second : (a b : List ℕ) (t : Text) {t' : Text} → Room (a ++ b) t → Puts a t t' → Room b t'
+room-second a b t h p = record { within = omega (arith, h.within, length-append a b, p.len, puts-kept p) }
+
+pub length-closed : (field : List ℕ) (end : ℕ) → length (closed field end) ≡ length field + 1
+unfolding closed
+length-closed field end = omega (arith, length-append field (end ∷ []))
+
 -- a word is put over as many bytes, and then the byte that ends it
-pub word-closed : (text : List ℕ) (at : ℕ) (word : List ℕ) (end : ℕ) → at + length word < length text
-    → Wrote text at (closed word end) (set (put_mid at (at + length word - at) text word) (at + length word) end) (at + length word + 1)
+pub word-closed : (text : List ℕ) (at : ℕ) (word : List ℕ) (end : ℕ) → at + length (closed word end) ≤ length text
+    → set (put_mid at (at + length word - at) text word) (at + length word) end ≡ sets text at (closed word end)
 unfolding closed
 word-closed text at word end h =
     let k : at + length word - at ≡ length word = omega arith in
     let over : put_mid at (at + length word - at) text word ≡ sets text at word =
     ap (λ (l : List ℕ). take at text ++ (word ++ l)) (ap (λ (j : ℕ). drop j (drop at text)) k ∙ drop-drop (length word) at text)
     ∙ sym (append_assoc (take at text) word (drop (at + length word) text))
-    ∙ sym (sets-eq word text at (omega arith)) in
-    let is : set (put_mid at (at + length word - at) text word) (at + length word) end ≡ sets text at (word ++ (end ∷ [])) =
-    ap (λ (t : List ℕ). set t (at + length word) end) over ∙ sym (sets-append word (end ∷ []) text at) in
-    record {
-      is = is;
-      kept = ap length is ∙ length-sets text at (word ++ (end ∷ []));
-      ends = omega (arith, length-append word (end ∷ []));
-    }
+    ∙ sym (sets-eq word text at (omega (arith, length-append word (end ∷ [])))) in
+    ap (λ (t : List ℕ). set t (at + length word) end) over ∙ sym (sets-append word (end ∷ []) text at)
 
--- what is put at the start is written
-pub wrote-listing : {new text text' : List ℕ} {end : ℕ} → Wrote text 0 new text' end → end ≤ length text → Listing new text text' end
+-- at the start of a buffer there is room for what is no longer than it
+pub room-start : {new : List ℕ} {t : Text} {k : ℕ} → t.len ≡ 0 → k ≤ length t.bytes.now → length new ≤ k → Room new t
+room-start z h g = record { within = omega arith }
+
+-- what is put at the start of a buffer is written there
+pub puts-listing : {new : List ℕ} {t t' : Text} → t.len ≡ 0 → Room new t → Puts new t t' → Listing new t.bytes.now t'.bytes.now t'.len
 unfolding written
-wrote-listing {new} {text} {text'} {end} w h =
+puts-listing {new} {t} {t'} z h p =
     record {
-      is = w.is ∙ sets-eq new text 0 (omega (arith, w.ends)) ∙ ap (λ (k : ℕ). new ++ drop k text) (zero-add (length new));
-      ends = w.ends ∙ zero-add (length new);
-      within = omega (arith, w.kept);
+      is =
+          p.is
+          ∙ ap (λ (k : ℕ). sets t.bytes.now k new) z
+          ∙ sets-eq new t.bytes.now 0 (omega (arith, h.within))
+          ∙ ap (λ (k : ℕ). new ++ drop k t.bytes.now) (zero-add (length new));
+      ends = omega (arith, p.len);
+      within = omega (arith, h.within, p.len, puts-kept p);
     }
 
 -- a bound on a count is what `&xs[..n]` asks
 pub prefix_len_of_le : (n : ℕ) (xs : List ℕ) → n ≤ length xs → IsPrefixLen n xs
 prefix_len_of_le n xs h = (h, sym (length-take-le n xs h))
-
--- the length that is returned counts bytes of the buffer
-pub listing-counts : {new text text' : List ℕ} {end : ℕ} → Listing new text text' end → IsPrefixLen end text'
-listing-counts {text' = text'} {end = end} l = prefix_len_of_le end text' l.within

@@ -1,2 +1,4 @@
 pub mod Text
+pub mod Digits
 pub mod Wrote
+pub mod Puts

@@ -1,14 +1,23 @@
 -- Document 01, 'Specimens', on `listrow`, with request 1's blanks: the text of the router's answer on an input, as bytes of ASCII.
-use Rattle.std.specs.Prelude.{List, [], ◌∷◌, ◌++◌, ℕ, suc, ◌*◌, replicate}
-use Rattle.std.specs.Fmt.{decimal}
+use Rattle.std.specs.Prelude.{List, [], ◌∷◌, ◌++◌, ℕ, zero, suc, ◌+◌, ◌*◌, ◌/◌, ◌%◌, replicate, eqb}
 use Rattle.std.specs.declared.result.Result.TheVariants.{Ok, Err}
 use Rattle.rules.specs.Answers.{Routing}
+use Rattle.rules.specs.Basic.{pick}
 use Rattle.rules.specs.declared.Kind.{Kind}
 use Rattle.rules.specs.declared.Kind.TheVariants.{B, M, E, N}
 use Rattle.rules.specs.Street.{counted}
 use Rattle.rules.specs.Sheet.{Entry, entry, kind_in, size, upper_of, lower_of, entries_of}
 use Rattle.rules.specs.Judgement.{left}
 use Rattle.rules.specs.Answers.{Said, route_said, routing, first_sheet}
+
+-- the digits of n, none for 0; at most so many
+unfoldable pub leading : (most n : ℕ) → List ℕ
+leading zero n = []
+leading (suc k) n = pick (eqb n 0) [] (leading k (n / 10) ++ ((48 + n % 10) ∷ []))
+
+-- n in decimal: no leading zeros, `0` for 0
+unfoldable pub decimal : ℕ → List ℕ
+decimal n = leading n (n / 10) ++ ((48 + n % 10) ∷ [])
 
 -- a field with the byte that ends it
 unfoldable pub closed : List ℕ → ℕ → List ℕ

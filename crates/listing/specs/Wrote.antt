@@ -1,16 +1,9 @@
--- What the parts of a listing ask and give: bytes put at a place of the text, and the place behind them.
-use Rattle.std.specs.Prelude.{◌≡◌, List, ℕ, ◌+◌, ◌≤◌, length, take}
-use Rattle.std.proofs.lemmas.List.Edits.{sets}
+-- What a listing asks, and what it gives: a text at the start of its buffer.
+use Rattle.std.specs.Prelude.{◌≡◌, List, ℕ, ◌≤◌, length, take}
 use Rattle.std.specs.declared.result.Result.TheVariants.{Ok}
 use Rattle.rules.specs.Answers.{Routing}
 use Rattle.rules.specs.Sheet.{size, count_of}
 use Rattle.rules.specs.Answers.{written}
-
--- new stands from at on, end is the place behind it, and every other byte is as it was
-pub record Wrote (text : List ℕ) (at : ℕ) (new text' : List ℕ) (end : ℕ) : Type 0 where
-  pub is : text' ≡ sets text at new
-  pub kept : length text' ≡ length text
-  pub ends : end ≡ at + length new
 
 -- a sheet whose nodes can be listed
 pub record Readable (s : List ℕ) (n : ℕ) : Type 0 where

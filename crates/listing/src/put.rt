@@ -1,27 +1,45 @@
-// Words and numbers put into a text, each with the byte that ends it.
-ghost use Rattle.std.specs.Prelude.{◌+◌, ◌≤◌, ◌<◌, length};
-ghost use Rattle.std.specs.Fmt.{decimal};
-ghost use Rattle.listing.specs.Text.{closed};
-ghost use Rattle.listing.specs.Wrote.{Wrote};
+// A text that is put into a lent buffer, a word or a number at a time.
+ghost use Rattle.std.specs.Prelude.{◌≡◌};
+ghost use Rattle.listing.specs.Text.{decimal, closed};
+ghost use Rattle.listing.specs.Puts.{Room, Puts};
 
 use itoa::Buffer;
 
-// Puts a word and the byte that ends it at a place of the text, and returns the place behind them.
-pub fn put_word(text: &mut [u8], at: usize, word: &[u8], end: u8) -> usize
-    requires { at + length word.now < length text.old }
-    ensures { Wrote text.old at (closed word.now end) text.new result }
-{
-    let behind = at + word.len();
-    text[at..behind].copy_from_slice(word);
-    text[behind] = end;
-    behind + 1
+// A text as far as it is put: the first `len` bytes of a lent buffer, since there is no heap. It is no `fmt::Write`: `write!` may fail, and does not promise when
+// it succeeds; a listing never fails. That there is room (`Room`) is asked where something is put: it speaks of what is still to be put, and so of no text alone.
+#[derive(Drop)]
+pub struct Text<'a> {
+    pub bytes: &'a mut [u8],
+    pub len: usize,
 }
 
-// Puts a number in decimal and the byte that ends it at a place of the text, and returns the place behind them.
-pub fn put_number(text: &mut [u8], at: usize, n: usize, end: u8) -> usize
-    requires { at + 20 < length text.old }
-    ensures { Wrote text.old at (closed (decimal n) end) text.new result × (result ≤ at + 21) }
-{
-    let mut digits = Buffer::new();
-    put_word(text, at, digits.format(n).as_bytes(), end)
+impl<'a> Text<'a> {
+    // Of which nothing is put.
+    pub fn new(bytes: &'a mut [u8]) -> Text<'a>
+        ensures same { result.bytes.ghost_name ≡ bytes.entry.ghost_name }
+        ensures bytes { result.bytes.now ≡ bytes.old }
+        ensures start { result.len ≡ 0 }
+    {
+        Text { bytes, len: 0 }
+    }
+
+    // Puts a word and the byte that ends it.
+    pub fn put_word(&mut self, word: &[u8], end: u8)
+        requires { Room (closed word.now end) self.old }
+        ensures { Puts (closed word.now end) self.old self.new }
+    {
+        let behind = self.len + word.len();
+        self.bytes[self.len..behind].copy_from_slice(word);
+        self.bytes[behind] = end;
+        self.len = behind + 1;
+    }
+
+    // Puts a number in decimal and the byte that ends it.
+    pub fn put_number(&mut self, n: usize, end: u8)
+        requires { Room (closed (decimal n) end) self.old }
+        ensures { Puts (closed (decimal n) end) self.old self.new }
+    {
+        let mut digits = Buffer::new();
+        self.put_word(digits.format(n).as_bytes(), end);
+    }
 }

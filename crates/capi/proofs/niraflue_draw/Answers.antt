@@ -7,4 +7,4 @@ use Rattle.capi.proofs.niraflue_draw.Goals as goal
 pub returns : goal.returns
 returns c =
     let call = c.draw.ensures in
-    handed draw_said call.answer c.from-said.ensures (draw-place _ _) call c.from.ensures
+    handed draw_said call.answer c.code.ensures.1 (draw-place _ _) call c.code.ensures.2

@@ -7,4 +7,4 @@ use Rattle.capi.proofs.niraflue_read.Goals as goal
 pub returns : goal.returns
 returns c =
     let call = c.read.ensures in
-    handed read_said call.answer c.from-said.ensures (read-place _ _) call c.from.ensures
+    handed read_said call.answer c.code.ensures.1 (read-place _ _) call c.code.ensures.2

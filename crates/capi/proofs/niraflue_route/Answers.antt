@@ -7,4 +7,4 @@ use Rattle.capi.proofs.niraflue_route.Goals as goal
 pub returns : goal.returns
 returns c =
     let call = c.route.ensures in
-    handed route_said call.answer c.from-said.ensures (route-place _ _ _ _ _) call c.from.ensures
+    handed route_said call.answer c.code.ensures.1 (route-place _ _ _ _ _) call c.code.ensures.2
