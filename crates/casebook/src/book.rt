@@ -1,7 +1,5 @@
 // The cases that are asked: each is printed and counted.
-use crate::agreement::agreement_case;
-use crate::routing::router_case;
-use crate::sheets::{Drawer, Reader, sheet_case};
+use crate::sheets::{Drawer, Reader};
 use fields::field;
 use std::fmt::Display;
 use std::io;
@@ -14,9 +12,15 @@ pub enum Asked {
     Drawer,
     // The agreement test, which is to answer this.
     Agreement(bool),
-    // All of them: a row is routed, read back, agreed on and drawn. Behind the router's fields stand `size number place wanted` of the reader, and then of
-    // the drawer.
+    // All of them: a row is routed, read back, agreed on and drawn.
     Whole,
+}
+
+// Cases of one sort, each a line of a text. They are bytes and no `str`, since a row may hold byte FF.
+#[derive(Clone, Copy)]
+pub struct Cases {
+    pub asked: Asked,
+    pub lines: &'static [u8],
 }
 
 // Prints cases, and counts how many were asked, and how many of them had an answer or a byte that differs from what is wanted.
@@ -36,8 +40,16 @@ impl<'a, P: Print> Casebook<'a, P> {
         }
     }
 
+    // Asks cases of several sorts.
+    pub fn ask(&mut self, cases: &[Cases]) -> io::Result<()> {
+        for Cases { asked, lines } in cases {
+            self.ask_lines(*asked, lines)?;
+        }
+        Ok(())
+    }
+
     // Asks the case of each line of a text; an empty line has none.
-    pub fn ask(&mut self, asked: Asked, text: &[u8]) -> io::Result<()> {
+    fn ask_lines(&mut self, asked: Asked, text: &[u8]) -> io::Result<()> {
         for line in text.split(|byte| *byte == b'\n') {
             if !line.is_empty() {
                 self.ask_line(asked, line)?;
@@ -46,18 +58,14 @@ impl<'a, P: Print> Casebook<'a, P> {
         Ok(())
     }
 
+    // A switch: cases of all sorts stand in one constant array, which an enum allows and a type for each sort does not.
     fn ask_line(&mut self, asked: Asked, line: &[u8]) -> io::Result<()> {
         match asked {
-            Asked::Router => router_case(self, line),
-            Asked::Reader => sheet_case(self, &Reader, line, 1, 2),
-            Asked::Drawer => sheet_case(self, &Drawer, line, 1, 2),
-            Asked::Agreement(wanted) => agreement_case(self, line, 2, wanted),
-            Asked::Whole => {
-                router_case(self, line)?;
-                sheet_case(self, &Reader, line, 8, 9)?;
-                agreement_case(self, line, 8, true)?;
-                sheet_case(self, &Drawer, line, 8, 13)
-            }
+            Asked::Router => self.router_case(line),
+            Asked::Reader => self.sheet_case(&Reader, line),
+            Asked::Drawer => self.sheet_case(&Drawer, line),
+            Asked::Agreement(wanted) => self.agreement_case(line, wanted),
+            Asked::Whole => self.whole_case(line),
         }
     }
 

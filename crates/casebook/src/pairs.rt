@@ -33,7 +33,7 @@ pub fn nets<const N: usize>() -> [u8; N] {
 // The first N bytes of the film of 256 nets: for each the stubs at its two nodes, and the horizontal between them. Five bytes a record, the most
 // significant first.
 pub fn film<const N: usize>() -> [u8; N] {
-    array::from_fn(|i| record(i / 5).to_be_bytes()[3 + i % 5])
+    array::from_fn(|i| record(i / 5).map_or(0, |record| record.to_be_bytes()[3 + i % 5]))
 }
 
 // The label of the node behind i others; that of the last two of 512 is 255, a blank.
@@ -50,19 +50,19 @@ fn nets_byte(i: usize) -> u8 {
     }
 }
 
-// Record k of the film as a number of 40 bits; 0 where there is none.
-fn record(k: usize) -> u64 {
+// Record k of the film as a number of 40 bits; none behind those of 256 nets.
+fn record(k: usize) -> Option<u64> {
     if k > 767 {
-        return 0;
+        return None;
     }
     let net = k as u64 / 3;
     let left = 32 * net;
     let right = left + 16;
-    match k % 3 {
+    Some(match k % 3 {
         0 => stub(net, left),
         1 => stub(net, right),
         _ => net << 31 | 5 << 27 | left << 14 | right << 1,
-    }
+    })
 }
 
 // A vertical from level 0 to level 1.

@@ -1,5 +1,6 @@
 // How answers and bytes are printed.
 use answers::Said;
+use fields::Hex;
 use std::fmt;
 use std::fmt::Display;
 
@@ -30,17 +31,5 @@ impl Display for Written<'_> {
                 Hex(&self.bytes[n - 20..])
             )
         }
-    }
-}
-
-#[derive(Clone, Copy)]
-struct Hex<'a>(&'a [u8]);
-
-impl Display for Hex<'_> {
-    fn fmt<W: fmt::Write>(&self, f: &mut fmt::Formatter<W>) -> fmt::Result {
-        for byte in self.0 {
-            write!(f, "{byte:02x}")?;
-        }
-        Ok(())
     }
 }

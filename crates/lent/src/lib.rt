@@ -3,7 +3,10 @@
 
 pub mod films;
 
-// What stands at an index of a buffer before a call. It is never 0.
+use rules::{RouteError, Routing};
+
+// What stands at an index of a buffer before a call. It is never 0. `tallies` has such a pattern with a seed, and fills and looks for it by loops like those here: the
+// four over any pattern would be the same loops, with the pattern as a closure that each caller passes.
 fn pattern(i: usize) -> u8 {
     (i % 251) as u8 + 3
 }
@@ -41,11 +44,12 @@ pub fn is_written(buffer: &[u8], wanted: &[u8]) -> bool {
     buffer.starts_with(wanted) && is_kept(buffer, wanted.len())
 }
 
-// Whether work is what the router's answer to a row of n nodes leaves: 90 bytes a node are zero after the numbers 0 and 6, as lines of cases give them, and every other byte is as it was.
-pub fn is_cleared(work: &[u8], number: u32, n: usize) -> bool {
-    let zeros = match number {
-        0 | 6 => n.saturating_mul(90),
-        _ => 0,
+// Whether work is what the router's answer to a row of n nodes leaves: 90 bytes a node are zero after a sheet, and where no placing was found, and every other byte
+// is as it was.
+pub fn is_cleared(work: &[u8], answer: Routing, n: usize) -> bool {
+    let zeros = match answer {
+        Ok(_) | Err(RouteError::Stuck(_)) => n.saturating_mul(90),
+        Err(_) => 0,
     };
     work.get(..zeros)
         .is_some_and(|start| start.iter().all(|byte| *byte == 0))

@@ -1,12 +1,12 @@
-// Edges of the drawer. A line is `name sheet size number place wanted`: `size` is the bytes that are lent for the film.
-use casebook::{Asked, Casebook};
-use std::io;
+// Edges of the drawer. A line is `name sheet size number place wanted`: `size` is the bytes that are lent for the film. The reader is asked the same
+// sheets, but a line is a case whole, with the bytes that are lent.
+use casebook::{Asked, Cases};
 
-// Empty and short sheets; node counts 0, 1, 2, 513 and 1023; films exact and one byte short.
-pub fn sizes(book: &mut Casebook<'_, impl Print>) -> io::Result<()> {
-    book.ask(
-        Asked::Drawer,
-        b"
+pub const CASES: [Cases; 4] = [
+    // Empty and short sheets; node counts 0, 1, 2, 513 and 1023; films exact and one byte short.
+    Cases {
+        asked: Asked::Drawer,
+        lines: b"
 empty - 1000 11 0 -
 one-byte 10 1000 11 0 -
 n-0 1000 1000 11 0 -
@@ -17,14 +17,11 @@ n-1023 13ff 1000 11 0 -
 one-short 100202 1000 13 0 -
 one-long 1002020000 1000 13 0 -
 ",
-    )
-}
-
-// Track counts of 3, 4 and 15; films exact and one byte short.
-pub fn streets_and_films(book: &mut Casebook<'_, impl Print>) -> io::Result<()> {
-    book.ask(
-        Asked::Drawer,
-        b"
+    },
+    // Track counts of 3, 4 and 15; films exact and one byte short.
+    Cases {
+        asked: Asked::Drawer,
+        lines: b"
 Ku-3 30020200 1000 0 3 802000140080200414000028000020
 Ku-4 40020200 1000 12 0 -
 Ku-15 f0020200 1000 12 0 -
@@ -35,14 +32,11 @@ film-empty 10020200 0 21 0 -
 film-exact-for-8 1404000860 40 0 8 80200014000028000002801800540080a00414008018081000001800404080a00c140000a8040060
 film-short-for-8 1404000860 39 21 0 -
 ",
-    )
-}
-
-// Each fault of a sheet with no film lent: it is given before 21.
-pub fn faults(book: &mut Casebook<'_, impl Print>) -> io::Result<()> {
-    book.ask(
-        Asked::Drawer,
-        b"
+    },
+    // Each fault of a sheet with no film lent: it is given before 21.
+    Cases {
+        asked: Asked::Drawer,
+        lines: b"
 E-behind-a-blank 1002c200 0 16 2 -
 s-over-b 1002fe00 0 16 1 -
 s-over-Ku 0403031800 0 17 2 -
@@ -56,14 +50,11 @@ sum-limit 1404000060 0 31 3 -
 left-open 14020000 0 18 2 -
 padding 10020208 0 19 0 -
 ",
-    )
-}
-
-// Several causes at once, with no film lent.
-pub fn causes_in_turn(book: &mut Casebook<'_, impl Print>) -> io::Result<()> {
-    book.ask(
-        Asked::Drawer,
-        b"
+    },
+    // Several causes at once, with no film lent.
+    Cases {
+        asked: Asked::Drawer,
+        lines: b"
 11-before-12 4001 0 11 0 -
 12-before-13 4002020000 0 12 0 -
 16-before-17 00020600 0 16 1 -
@@ -80,5 +71,5 @@ left-open-at-a-blank 14020300 0 18 2 -
 30-before-19 10020001 0 30 2 -
 13-before-21 100202 0 13 0 -
 ",
-    )
-}
+    },
+];

@@ -19,47 +19,29 @@ fn main(rt: HostRuntime) -> io::Result<()> {
         b"whom, case: number at place, bytes written; then whether answer and every byte lent are what documents 01 and 02 say\n",
     )?;
     let mut book = Casebook::new(&rt);
-    named(&mut book)?;
-    router_and_reader(&mut book)?;
-    drawer_and_agreement(&mut book)?;
-    listed(&mut book)?;
+    ask_lines(&mut book)?;
+    ask_long(&mut book)?;
+    ask_listings(&mut book)?;
     book.print_counts()
 }
 
-fn named(book: &mut Casebook<'_, impl Print>) -> io::Result<()> {
-    specimens::accepted_rows(book)?;
-    specimens::refused_rows(book)?;
-    specimens::refused_sheets(book)?;
-    blanks::rows(book)?;
-    blanks::refused_rows(book)?;
-    blanks::sheets(book)?;
-    blanks::agreements(book)?;
-    worked::net_lists(book)
+fn ask_lines(book: &mut Casebook<'_, impl Print>) -> io::Result<()> {
+    book.ask(&specimens::CASES)?;
+    book.ask(&blanks::CASES)?;
+    book.ask(&worked::CASES)?;
+    book.ask(&router_edges::CASES)?;
+    book.ask(&reader_edges::CASES)?;
+    book.ask(&drawer_edges::CASES)?;
+    book.ask(&agreement_edges::CASES)
 }
 
-fn router_and_reader(book: &mut Casebook<'_, impl Print>) -> io::Result<()> {
-    router_edges::rows_and_streets(book)?;
-    router_edges::buffers(book)?;
-    router_edges::causes_in_turn(book)?;
-    reader_edges::sizes(book)?;
-    reader_edges::streets_and_rows(book)?;
-    reader_edges::faults(book)?;
-    reader_edges::causes_in_turn(book)
-}
-
-fn drawer_and_agreement(book: &mut Casebook<'_, impl Print>) -> io::Result<()> {
-    drawer_edges::sizes(book)?;
-    drawer_edges::streets_and_films(book)?;
-    drawer_edges::faults(book)?;
-    drawer_edges::causes_in_turn(book)?;
-    agreement_edges::agreements(book)?;
-    agreement_edges::no_agreements(book)
-}
-
-fn listed(book: &mut Casebook<'_, impl Print>) -> io::Result<()> {
+fn ask_long(book: &mut Casebook<'_, impl Print>) -> io::Result<()> {
     long::most_nodes(book)?;
     long::most_nets(book)?;
-    long::too_many_nodes(book)?;
+    long::too_many_nodes(book)
+}
+
+fn ask_listings(book: &mut Casebook<'_, impl Print>) -> io::Result<()> {
     listings::short_inputs(book)?;
     listings::blank_inputs(book)?;
     listings::refused_inputs(book)?;

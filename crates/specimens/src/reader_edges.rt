@@ -1,12 +1,11 @@
 // Edges of the reader. A line is `name sheet size number place wanted`: `size` is the bytes that are lent for the row.
-use casebook::{Asked, Casebook};
-use std::io;
+use casebook::{Asked, Cases};
 
-// Empty and short sheets; node counts 0, 1, 2, 513 and 1023.
-pub fn sizes(book: &mut Casebook<'_, impl Print>) -> io::Result<()> {
-    book.ask(
-        Asked::Reader,
-        b"
+pub const CASES: [Cases; 4] = [
+    // Empty and short sheets; node counts 0, 1, 2, 513 and 1023.
+    Cases {
+        asked: Asked::Reader,
+        lines: b"
 empty - 100 11 0 -
 one-byte 10 100 11 0 -
 n-0 1000 100 11 0 -
@@ -18,14 +17,11 @@ one-short 100202 100 13 0 -
 one-long 1002020000 100 13 0 -
 head-alone 1002 100 13 0 -
 ",
-    )
-}
-
-// Track counts of 3, 4 and 15; row buffers exact and one byte short.
-pub fn streets_and_rows(book: &mut Casebook<'_, impl Print>) -> io::Result<()> {
-    book.ask(
-        Asked::Reader,
-        b"
+    },
+    // Track counts of 3, 4 and 15; row buffers exact and one byte short.
+    Cases {
+        asked: Asked::Reader,
+        lines: b"
 Ku-3 30020200 100 0 2 0000
 Ku-4 40020200 100 12 0 -
 Ku-15 f0020200 100 12 0 -
@@ -36,14 +32,11 @@ row-empty 10020200 0 14 0 -
 row-exact-for-4 1404000860 4 0 4 00010001
 row-short-for-4 1404000860 3 14 0 -
 ",
-    )
-}
-
-// Each fault of a node, each limit, nets left open, padding.
-pub fn faults(book: &mut Casebook<'_, impl Print>) -> io::Result<()> {
-    book.ask(
-        Asked::Reader,
-        b"
+    },
+    // Each fault of a node, each limit, nets left open, padding.
+    Cases {
+        asked: Asked::Reader,
+        lines: b"
 E-behind-a-blank 1002c200 100 16 2 -
 s-over-b 1002fe00 100 16 1 -
 s-over-Ku 0403031800 100 17 2 -
@@ -57,14 +50,11 @@ sum-limit 1404000060 100 31 3 -
 left-open 14020000 100 18 2 -
 padding 10020208 100 19 0 -
 ",
-    )
-}
-
-// Several causes at once: the earliest test decides, and of two nodes the left one.
-pub fn causes_in_turn(book: &mut Casebook<'_, impl Print>) -> io::Result<()> {
-    book.ask(
-        Asked::Reader,
-        b"
+    },
+    // Several causes at once: the earliest test decides, and of two nodes the left one.
+    Cases {
+        asked: Asked::Reader,
+        lines: b"
 11-before-12 4001 100 11 0 -
 12-before-13 4002020000 100 12 0 -
 13-before-14 100202 1 13 0 -
@@ -82,5 +72,5 @@ left-open-at-a-blank 14020300 100 18 2 -
 18-before-19 14020001 100 18 2 -
 30-before-19 10020001 100 30 2 -
 ",
-    )
-}
+    },
+];

@@ -1,54 +1,47 @@
 // S1 to S12 of document 01, S12 with request 6's number, with more bytes lent than are needed. A line says what is asked, the bytes that are lent, and what is wanted (casebook).
-use casebook::{Asked, Casebook};
-use std::io;
+use casebook::{Asked, Cases};
 
-// Routed, read back, agreed on and drawn.
-pub fn accepted_rows(book: &mut Casebook<'_, impl Print>) -> io::Result<()> {
-    book.ask(
-        Asked::Whole,
-        b"
+pub const CASES: [Cases; 5] = [
+    // Routed, read back, agreed on and drawn.
+    Cases {
+        asked: Asked::Whole,
+        lines: b"
 S1 aa 1 0 2000 100 0 2 10020200 100 0 2 0000 1000 0 3 802000140080200414000028000020
 S3 abab 1 1 2000 100 0 4 1404000860 100 0 4 00010001 1000 0 8 80200014000028000002801800540080a00414008018081000001800404080a00c140000a8040060
 S5 abba 2 0 2000 100 0 4 2004001860 100 0 4 00010100 1000 0 10 80200014000028000002802800580080a004140080a008140000a80400400030004042802808580080200c14000028084060
 S6 abcbac 2 1 2000 100 0 6 24060010628200 100 0 6 000102010002 1000 0 19 80200014000028000002802800580080a004140000a80400228098045400812008140080980c10000098044060012808006281180c5400003000406480280c9800802010140000280c808001180c40828118105400812014140001281040a0
 S8 abcabcabc 2 2 2000 100 0 9 28090000124508a180 100 0 9 000102000102000102 1000 0 38 80200014000028000002801800540080a004140000180040228010044c0000a80400248098049400812008140001280800428128085800009804804480980894000010044046801008cc0080180c100080a0101400001808c0828010104c0000a808808480981094000130084086812810d8008120141400012810c0a2812814580000981080a4809814940000101040a6801014cc008018181000001814c0c080a01c140000a81480e001301440e281281c5800812020140001281c4100
 ",
-    )
-}
-
-pub fn refused_rows(book: &mut Casebook<'_, impl Print>) -> io::Result<()> {
-    book.ask(
-        Asked::Router,
-        b"
+    },
+    Cases {
+        asked: Asked::Router,
+        lines: b"
 S2 aa 0 0 1000 100 6 1 -
 S4 abab 2 0 1000 100 6 3 -
 S7 abcabcabc 2 1 1000 100 6 5 -
 S9 abccba 1 1 1000 100 6 3 -
 S10 aab 1 1 1000 100 3 3 -
 ",
-    )
-}
-
-pub fn refused_sheets(book: &mut Casebook<'_, impl Print>) -> io::Result<()> {
-    book.ask(
-        Asked::Reader,
-        b"
+    },
+    Cases {
+        asked: Asked::Reader,
+        lines: b"
 S11 10020201 100 19 0 -
 S12 10020000 100 30 2 -
 ",
-    )?;
-    book.ask(
-        Asked::Drawer,
-        b"
+    },
+    Cases {
+        asked: Asked::Drawer,
+        lines: b"
 S11 10020201 1000 19 0 -
 S12 10020000 1000 30 2 -
 ",
-    )?;
-    book.ask(
-        Asked::Agreement(false),
-        b"
+    },
+    Cases {
+        asked: Asked::Agreement(false),
+        lines: b"
 S11 aa 10020201
 S12 ab 10020000
 ",
-    )
-}
+    },
+];

@@ -5,6 +5,7 @@ use sheet::agreement::agrees;
 
 // What the agreement test answers to a line, as 1 or 0.
 pub fn agreement_line(line: &[u8]) -> Option<Answer> {
+    // Arrays are lent, so that no line fails for want of memory.
     let mut row = [0u8; 1024];
     let mut sheet = [0u8; 1024];
     let row = bytes(line, 0, &mut row)?;

@@ -1,7 +1,7 @@
 // Lines of sheets: behind the reader's fields `number place film` of the drawer, whose records may stand in another order.
 use crate::asked::Answer;
 use answers::Said;
-use fields::{bytes, is_said};
+use fields::bytes;
 use film::drawer::draw;
 use lent::fill;
 use lent::films::is_drawn;
@@ -10,7 +10,10 @@ use lent::films::is_drawn;
 const FILM: usize = 35840;
 
 // What the drawer answers to a line. It is right in number, place, the film's records in any order, and every other byte as it was.
+// The reader's lines go the same course, and ask the agreement test too. One function for both, over a trait as `casebook` has it, would take a size, who is asked
+// and what else is tested, and be no shorter than the two.
 pub fn drawer_line(line: &[u8]) -> Option<Answer> {
+    // Arrays are lent, so that no line fails for want of memory.
     let mut sheet = [0u8; 1024];
     let mut wanted = [0u8; FILM];
     let mut film = [0u8; FILM];
@@ -18,9 +21,6 @@ pub fn drawer_line(line: &[u8]) -> Option<Answer> {
     let wanted = bytes(line, 6, &mut wanted);
     fill(&mut film);
     let said = Said::from(draw(sheet, &mut film));
-    Some(Answer {
-        number: said.number,
-        is_right: is_said(line, 4, said.number, said.place)
-            && wanted.is_some_and(|wanted| is_drawn(&film, wanted)),
-    })
+    let is_written = wanted.is_some_and(|wanted| is_drawn(&film, wanted));
+    Some(Answer::new(line, 4, said, is_written))
 }

@@ -46,6 +46,7 @@ impl Report {
 
     // Prints the report of a file, and a line for each number that was answered.
     pub fn print(&self, rt: &impl Print, path: &str) -> io::Result<()> {
+        // The sum saturates, as the counts do.
         let answers = self
             .answers
             .values()
