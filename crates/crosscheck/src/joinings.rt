@@ -2,29 +2,51 @@
 // nets with some alone are these: a node that is alone is left blank.
 use secondrouter::nets::{BLANK_LABEL, first_lone, is_lone};
 use secondrouter::streets::Streets;
-use std::alloc::AllocError;
+use std::alloc::{AllocError, Global};
 use std::io;
 use tallies::source::Source;
 use trials::trial::Trials;
 
-// There are 21,147 ways to part nine nodes into nets.
+// There are 21,147 ways to part nine nodes into nets: so many turns are enough, and a `while let` would need a measure of the ways that are left.
 const PARTINGS: usize = 21147;
 
-// Goes on to the next way of parting nodes, whose labels are given in the order of first nodes; false after the last.
-fn advance(labels: &mut [u8]) -> bool {
-    for i in (1..labels.len()).rev() {
-        let (before, rest) = labels.split_at_mut(i);
-        let largest = before.iter().copied().max().unwrap_or(0);
-        if let Some((label, after)) = rest.split_first_mut() {
-            // A later label than the next new net's would skip one.
-            if *label <= largest {
-                *label = label.saturating_add(1);
-                after.fill(0);
-                return true;
-            }
-        }
+// Joinings of 2 to `most` nodes that are tested as one source: none of the nodes is blank, or at least one is.
+#[derive(Clone, Copy)]
+pub struct Sort {
+    source: Source,
+    most: usize,
+    has_blanks: bool,
+}
+
+pub const FULL: Sort = Sort {
+    source: Source::Joinings,
+    most: 9,
+    has_blanks: false,
+};
+
+pub const BLANK: Sort = Sort {
+    source: Source::BlankJoinings,
+    most: 8,
+    has_blanks: true,
+};
+
+// The last node whose label can be the next one: no later than that of the next new net. By its number, since the labels before it decide.
+fn last_to_rise(labels: &[u8]) -> Option<usize> {
+    (1..labels.len()).rev().find(|i| {
+        let before = labels.iter().take(*i);
+        labels.get(*i) <= before.max()
+    })
+}
+
+// Goes on to the way of parting nodes that comes next where the label of node `i` rises.
+fn rise(labels: &mut [u8], i: usize) {
+    let Some(rest) = labels.get_mut(i..) else {
+        return;
+    };
+    if let Some((label, after)) = rest.split_first_mut() {
+        *label = label.saturating_add(1);
+        after.fill(0);
     }
-    false
 }
 
 // Tests the row under every pair of streets.
@@ -36,44 +58,38 @@ fn under_all(trials: &mut Trials<impl Print>, row: &[u8]) -> io::Result<()> {
     Ok(())
 }
 
-// Writes the row of a parting with the nodes left blank whose label stands there only.
-fn leave_blanks(labels: &[u8], row: &mut Vec<u8>) -> Result<(), AllocError> {
-    row.clear();
-    for (i, label) in labels.iter().enumerate() {
-        row.push(if is_lone(labels, i) {
+// The row of a parting with the nodes left blank whose label stands there only.
+fn leave_blanks(alloc: Global, labels: &[u8]) -> Result<Vec<u8>, AllocError> {
+    let row = labels.iter().enumerate().map(|(i, label)| {
+        if is_lone(labels, i) {
             BLANK_LABEL
         } else {
             *label
-        })?;
-    }
-    Ok(())
+        }
+    });
+    row.collect(alloc)
 }
 
-// Tests every parting of so many nodes that has some alone, which are left blank, or every one that has none.
+// Tests every parting of so many nodes that has some alone, which are left blank, or every one that has none. Labels are given in the order of first nodes.
 fn of_nodes(trials: &mut Trials<impl Print>, nodes: usize, has_blanks: bool) -> io::Result<()> {
     let mut labels = vec![in trials.alloc; 0; nodes]?;
-    let mut row = Vec::new(trials.alloc);
     for _ in 0..PARTINGS {
         if first_lone(&labels).is_some() == has_blanks {
-            leave_blanks(&labels, &mut row)?;
+            let row = leave_blanks(trials.alloc, &labels)?;
             under_all(trials, &row)?;
         }
-        if !advance(&mut labels) {
+        let Some(i) = last_to_rise(&labels) else {
             break;
-        }
+        };
+        rise(&mut labels, i);
     }
     Ok(())
 }
 
-// Tests every joining of 2 to `most` nodes, of which none or at least one is blank, and prints what came of them.
-pub fn test(
-    trials: &mut Trials<impl Print>,
-    most: usize,
-    has_blanks: bool,
-    source: Source,
-) -> io::Result<()> {
-    for nodes in 2..=most {
-        of_nodes(trials, nodes, has_blanks)?;
+// Tests every joining of a sort, and prints what came of them.
+pub fn test(trials: &mut Trials<impl Print>, sort: Sort) -> io::Result<()> {
+    for nodes in 2..=sort.most {
+        of_nodes(trials, nodes, sort.has_blanks)?;
     }
-    trials.report_source(source)
+    trials.report_source(sort.source)
 }

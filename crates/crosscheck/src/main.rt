@@ -3,10 +3,9 @@
 
 mod joinings;
 
-use randomrows::rows::RowMaker;
+use randomrows::generator::Generator;
 use randomtrials::{rows, sheets};
 use std::io;
-use tallies::source::Source;
 use trials::trial::Trials;
 
 // The seed of the rows and sheets by lot.
@@ -14,14 +13,14 @@ const SEED: u64 = 20611;
 
 fn main(rt: HostRuntime) -> io::Result<()> {
     let mut trials = Trials::new(&rt, rt.alloc())?;
-    let mut maker = RowMaker::new(rt.alloc(), SEED);
-    joinings::test(&mut trials, 9, false, Source::Joinings)?;
-    rows::test(&mut trials, &mut maker, rows::SHORT)?;
-    rows::test(&mut trials, &mut maker, rows::LONG)?;
-    rows::test_lone(&mut trials, &mut maker)?;
-    joinings::test(&mut trials, 8, true, Source::BlankJoinings)?;
-    rows::test(&mut trials, &mut maker, rows::BLANK_SHORT)?;
-    rows::test(&mut trials, &mut maker, rows::BLANK_LONG)?;
-    sheets::test_all(&mut trials, &mut maker)?;
+    let mut lot = Generator::new(SEED);
+    joinings::test(&mut trials, joinings::FULL)?;
+    rows::test(&mut trials, &mut lot, rows::SHORT)?;
+    rows::test(&mut trials, &mut lot, rows::LONG)?;
+    rows::test_lone(&mut trials, &mut lot)?;
+    joinings::test(&mut trials, joinings::BLANK)?;
+    rows::test(&mut trials, &mut lot, rows::BLANK_SHORT)?;
+    rows::test(&mut trials, &mut lot, rows::BLANK_LONG)?;
+    sheets::test_all(&mut trials, &mut lot)?;
     trials.report()
 }

@@ -1,26 +1,27 @@
 // Random rows: legal for a while, or from the start left to chance; with blanks or without. Each has the placing by lot that it was made with.
 use crate::generator::Generator;
-use secondrouter::nets::{BLANK_LABEL, Kind, Node};
+use secondrouter::nets::{Kind, Node};
 use secondrouter::orders::Order;
+use secondrouter::placing::Placing;
 use secondrouter::streets::Streets;
 use std::alloc::{AllocError, Global};
 
 // Labels 0 to 254 are those of nets.
 const LABELS: usize = 255;
 
-// What a node of a net does.
-enum Step {
-    Open,
-    Touch,
-    End,
+// What a row is to be.
+#[derive(Clone, Copy)]
+pub struct Plan {
+    pub streets: Streets,
+    pub count: usize,
+    // Of sixteen nodes so many are to be blanks; none where blanks are not to come at all, not even as the last node.
+    pub share: Option<usize>,
 }
 
 // How a row is made, by lot.
 #[derive(Clone, Copy)]
 struct Style {
-    streets: Streets,
-    // Of sixteen nodes so many are to be blanks.
-    share: usize,
+    plan: Plan,
     // Of ten nodes of nets so many are to open one, and so many to end one.
     opening: usize,
     ending: usize,
@@ -31,24 +32,27 @@ struct Style {
 }
 
 impl Style {
-    // The style that the bits of a number say.
-    fn new(bits: usize, nodes: usize, streets: Streets, share: usize) -> Style {
+    // The style that one number by lot says: its parts stay as they were, and so do the rows.
+    fn new(bits: usize, plan: Plan) -> Style {
         Style {
-            streets,
-            share,
+            plan,
             opening: bits % 5 + 1,
             ending: bits % 4 + 1,
-            most: most_open(bits, streets.tracks()),
-            free_from: free_from(bits, nodes, streets.tracks()),
+            most: most_open(bits, plan.streets.tracks()),
+            free_from: free_from(bits, plan),
         }
     }
 
-    // How many nets a node may find open: one more than the tracks where the row is left to chance.
-    fn cap(&self, is_free: bool) -> usize {
-        if is_free {
-            self.streets.tracks().saturating_add(1)
-        } else {
-            self.most
+    // The streets whose limits node `i` meets; none where the row is left to chance.
+    fn limits(&self, i: usize) -> Option<Streets> {
+        (i < self.free_from).then_some(self.plan.streets)
+    }
+
+    // How many nets node `i` may find open: one more than the tracks where the row is left to chance.
+    fn cap(&self, i: usize) -> usize {
+        match self.limits(i) {
+            Some(_) => self.most,
+            None => self.plan.streets.tracks().saturating_add(1),
         }
     }
 }
@@ -62,179 +66,164 @@ fn most_open(bits: usize, tracks: usize) -> usize {
 }
 
 // From which node on a row is left to chance: a quarter of the rows never, a quarter from the start, half from a node of the second half.
-fn free_from(bits: usize, nodes: usize, tracks: usize) -> usize {
-    if tracks == 0 {
+fn free_from(bits: usize, plan: Plan) -> usize {
+    if plan.streets.tracks() == 0 {
         return 0;
     }
+    let half = plan.count / 2;
     match bits / 1024 % 4 {
         0 => 0,
-        1 => nodes,
-        _ => nodes / 2 + (bits / 4096).checked_rem(nodes / 2).unwrap_or(0),
+        1 => plan.count,
+        _ => half + (bits / 4096).checked_rem(half).unwrap_or(0),
     }
 }
 
-// A position among `count`: any at all, or one that the limits allow.
-pub fn position(lot: &mut Generator, streets: Streets, is_free: bool, count: usize) -> usize {
-    if is_free {
+// A position among `count`: one that the limits of two streets allow, or any at all.
+pub fn position(lot: &mut Generator, limits: Option<Streets>, count: usize) -> usize {
+    let Some(streets) = limits else {
         return lot.draw(count);
-    }
+    };
     let from = count.saturating_sub(1 + usize::from(streets.lower));
     let to = count.min(1 + usize::from(streets.upper));
     from.saturating_add(lot.draw(to.saturating_sub(from)))
 }
 
-// The row that is made, its placing, and the nets that it has so far. The memory is kept from one row to the next.
-#[derive(Drop)]
-pub struct RowMaker {
-    pub lot: Generator,
-    pub row: Vec<u8>,
-    // The kinds and the positions of the placing.
-    pub nodes: Vec<Node>,
-    order: Order,
-    open: usize,
-    nets: usize,
+// A label that no node has yet; none where all are used.
+fn fresh_label(lot: &mut Generator, nodes: &[Node]) -> Option<u8> {
+    let start = lot.draw(LABELS);
+    (0..LABELS)
+        .map(|k| (start.wrapping_add(k) % LABELS) as u8)
+        .find(|label| nodes.iter().all(|node| node.net != Some(*label)))
 }
 
-impl RowMaker {
-    pub fn new(alloc: Global, seed: u64) -> RowMaker {
-        RowMaker {
-            lot: Generator::new(seed),
-            row: Vec::new(alloc),
-            nodes: Vec::new(alloc),
-            order: Order::new(),
-            open: 0,
-            nets: 0,
-        }
+// A row that is being made: its nodes so far, and the order of the nets that are open after them.
+#[derive(Drop)]
+struct Draft<'a> {
+    lot: &'a mut Generator,
+    style: Style,
+    nodes: Vec<Node>,
+    order: Order,
+}
+
+impl Draft<'_> {
+    // How many nodes are to come.
+    fn left(&self) -> usize {
+        self.style.plan.count.saturating_sub(self.nodes.len())
     }
 
-    // Makes a row of `count` nodes with no lone label, of which `share` of sixteen are to be blanks: until a node they follow an order that meets the limits, then
-    // any net may be touched.
-    pub fn make(&mut self, count: usize, streets: Streets, share: usize) -> Result<(), AllocError> {
-        self.clear();
-        let bits = (self.lot.number() >> 16) as usize;
-        let style = Style::new(bits, count, streets, share);
-        for i in 0..count {
-            self.add_node(&style, count - i, style.free_from <= i)?;
-        }
-        Ok(())
+    // Whether as many nets have begun as there are labels.
+    fn is_used_up(&self) -> bool {
+        let firsts = self.nodes.iter().filter(|node| node.kind == Kind::First);
+        LABELS <= firsts.count()
     }
 
-    // Gives one node a label that no other has.
-    pub fn make_lone(&mut self) {
-        let label = self.fresh_label();
-        let i = self.lot.draw(self.row.len());
-        if let Some(node) = self.row.get_mut(i) {
-            *node = label;
-        }
-    }
-
-    fn clear(&mut self) {
-        self.row.clear();
-        self.nodes.clear();
-        self.order = Order::new();
-        self.open = 0;
-        self.nets = 0;
-    }
-
-    fn push(&mut self, label: u8, kind: Kind, position: usize) -> Result<(), AllocError> {
-        self.row.push(label)?;
-        self.nodes.push(Node::new(kind, position))?;
-        Ok(())
-    }
-
-    // A label that the row does not have yet.
-    fn fresh_label(&mut self) -> u8 {
-        let start = self.lot.draw(LABELS);
-        (0..LABELS)
-            .map(|k| (start.wrapping_add(k) % LABELS) as u8)
-            .find(|label| !self.row.contains(label))
-            .unwrap_or(0)
-    }
-
-    // Makes the first of `left` nodes.
-    fn add_node(&mut self, style: &Style, left: usize, is_free: bool) -> Result<(), AllocError> {
-        if self.is_blank(left, style.share) {
-            return self.leave_blank(style.streets, is_free);
-        }
-        match self.step(style, left, is_free) {
-            Step::Open => self.open_net(style.streets, is_free),
-            Step::Touch => self.touch_net(style.streets, is_free),
-            Step::End => self.end_net(style.streets, is_free),
-        }
-    }
-
-    // Whether the next node is a blank, by lot: `share` of sixteen are to be, where every open net can still end. So is a last node that finds no net open.
-    fn is_blank(&mut self, left: usize, share: usize) -> bool {
-        if share == 0 || left <= self.open {
+    // Whether the next node is a blank, by lot: a share of sixteen are to be, where every open net can still end. So is a last node that finds no net open.
+    fn is_blank(&mut self) -> bool {
+        let Some(share) = self.style.plan.share else {
+            return false;
+        };
+        let open = self.order.open();
+        if self.left() <= open {
             return false;
         }
-        if self.open == 0 && left == 1 {
+        if open == 0 && self.left() == 1 {
             return true;
         }
         self.lot.draw(16) < share
     }
 
-    // What the next node of a net does, by lot, where `left` nodes remain with it.
-    fn step(&mut self, style: &Style, left: usize, is_free: bool) -> Step {
+    // What the next node of a net is to it, by lot.
+    fn kind(&mut self) -> Kind {
         let lot = self.lot.draw(10);
-        if self.open == 0 {
-            return Step::Open;
+        let open = self.order.open();
+        if open == 0 {
+            return Kind::First;
         }
-        if left <= self.open {
-            return Step::End;
+        if self.left() <= open {
+            return Kind::Last;
         }
-        if lot < style.opening {
-            return self.opening(left, style.cap(is_free));
+        if lot < self.style.opening {
+            return self.opening();
         }
-        if lot < style.opening.saturating_add(style.ending) {
-            return self.ending(left);
+        if lot < self.style.opening.saturating_add(self.style.ending) {
+            return self.ending();
         }
-        Step::Touch
+        Kind::Inner
     }
 
     // Opens a net if that can be: every open net has to end.
-    fn opening(&self, left: usize, cap: usize) -> Step {
-        if cap <= self.open || left < self.open.saturating_add(2) || LABELS <= self.nets {
-            Step::Touch
+    fn opening(&self) -> Kind {
+        let open = self.order.open();
+        let cap = self.style.cap(self.nodes.len());
+        if cap <= open || self.left() < open.saturating_add(2) || self.is_used_up() {
+            Kind::Inner
         } else {
-            Step::Open
+            Kind::First
         }
     }
 
     // Ends a net if that can be: a single last node could not be of any net, and with no label left no net could follow.
-    fn ending(&self, left: usize) -> Step {
-        if 1 < self.open || (left != 2 && self.nets < LABELS) {
-            Step::End
+    fn ending(&self) -> Kind {
+        if 1 < self.order.open() || (self.left() != 2 && !self.is_used_up()) {
+            Kind::Last
         } else {
-            Step::Touch
+            Kind::Inner
         }
     }
 
-    // Any number of wires passes above a blank, or one that the limits allow.
-    fn leave_blank(&mut self, streets: Streets, is_free: bool) -> Result<(), AllocError> {
-        let above = position(&mut self.lot, streets, is_free, self.open.saturating_add(1));
-        self.push(BLANK_LABEL, Kind::Blank, above)
+    // Adds a node of a kind, at a position by lot.
+    fn add(&mut self, kind: Kind) -> Result<(), AllocError> {
+        let open = self.order.open();
+        let choices = match kind {
+            Kind::First | Kind::Blank => open.saturating_add(1),
+            Kind::Inner | Kind::Last => open,
+        };
+        let limits = self.style.limits(self.nodes.len());
+        let mut node = Node::new(kind, position(self.lot, limits, choices));
+        let begins = match kind {
+            Kind::First => fresh_label(self.lot, &self.nodes),
+            _ => None,
+        };
+        node.net = self.order.pass(&node, begins);
+        self.nodes.push(node)?;
+        Ok(())
     }
 
-    fn open_net(&mut self, streets: Streets, is_free: bool) -> Result<(), AllocError> {
-        self.open = self.open.saturating_add(1);
-        self.nets = self.nets.saturating_add(1);
-        let position = position(&mut self.lot, streets, is_free, self.open);
-        let label = self.fresh_label();
-        self.order.insert(position, label);
-        self.push(label, Kind::First, position)
+    // Adds the next node.
+    fn add_next(&mut self) -> Result<(), AllocError> {
+        let kind = if self.is_blank() {
+            Kind::Blank
+        } else {
+            self.kind()
+        };
+        self.add(kind)
     }
+}
 
-    fn touch_net(&mut self, streets: Streets, is_free: bool) -> Result<(), AllocError> {
-        let position = position(&mut self.lot, streets, is_free, self.open);
-        let label = self.order.net(position).unwrap_or(0);
-        self.push(label, Kind::Inner, position)
+// Makes a row with no lone label: until a node it follows an order that meets the limits, then any net may be touched. The allocator stands beside the lot, as std has it
+// beside what it makes: a lot that kept it would be a generator of rows and not of numbers.
+pub fn draw_row(alloc: Global, lot: &mut Generator, plan: Plan) -> Result<Placing, AllocError> {
+    let bits = (lot.number() >> 16) as usize;
+    let mut draft = Draft {
+        lot,
+        style: Style::new(bits, plan),
+        nodes: Vec::new(alloc),
+        order: Order::new(),
+    };
+    for _ in 0..plan.count {
+        draft.add_next()?;
     }
+    Ok(Placing {
+        streets: plan.streets,
+        nodes: draft.nodes,
+    })
+}
 
-    fn end_net(&mut self, streets: Streets, is_free: bool) -> Result<(), AllocError> {
-        let position = position(&mut self.lot, streets, is_free, self.open);
-        let label = self.order.remove(position).unwrap_or(0);
-        self.open = self.open.saturating_sub(1);
-        self.push(label, Kind::Last, position)
+// Gives one node a label that no other has.
+pub fn make_lone(lot: &mut Generator, placing: &mut Placing) {
+    let label = fresh_label(lot, &placing.nodes);
+    let i = lot.draw(placing.nodes.len());
+    if let Some(node) = placing.nodes.get_mut(i) {
+        node.net = label;
     }
 }

@@ -1,8 +1,9 @@
 // Random rows of five sorts, each tested under its pair of streets.
 use randomrows::generator::Generator;
-use randomrows::rows::RowMaker;
+use randomrows::rows::{Plan, draw_row, make_lone};
 use secondrouter::streets::Streets;
 use std::io;
+use tallies::count::Count;
 use tallies::source::Source;
 use trials::trial::Trials;
 
@@ -68,34 +69,41 @@ pub fn share(lot: &mut Generator) -> usize {
     lot.draw(12).saturating_add(1)
 }
 
-// Tests random rows of a sort, and prints what came of them.
-pub fn test(trials: &mut Trials<impl Print>, maker: &mut RowMaker, sort: Sort) -> io::Result<()> {
+// Tests random rows of a sort, and prints what came of them. The trials and the lot are two parameters, since joinings take the trials alone between these tests: a
+// struct of both would be made anew for each test.
+pub fn test(trials: &mut Trials<impl Print>, lot: &mut Generator, sort: Sort) -> io::Result<()> {
     for k in 0..sort.count {
         let streets = Streets::nth(k);
-        let count = sort.length.by_lot(&mut maker.lot);
-        let blanks = if sort.has_blanks {
-            share(&mut maker.lot)
-        } else {
-            0
+        let count = sort.length.by_lot(lot);
+        let share = sort.has_blanks.then(|| share(lot));
+        let plan = Plan {
+            streets,
+            count,
+            share,
         };
-        maker.make(count, streets, blanks)?;
+        let placing = draw_row(trials.alloc, lot, plan)?;
         trials.tally.count_source_row();
         trials.tally.count_pair(streets);
-        trials.test_row(&maker.row, streets)?;
+        trials.test_row(&placing.row()?, streets)?;
     }
     trials.report_source(sort.source)
 }
 
 // Tests random rows with a lone label, with blanks where k / 16 is odd.
-pub fn test_lone(trials: &mut Trials<impl Print>, maker: &mut RowMaker) -> io::Result<()> {
+pub fn test_lone(trials: &mut Trials<impl Print>, lot: &mut Generator) -> io::Result<()> {
     for k in 0..1024 {
         let streets = Streets::nth(k);
-        let count = Length::Short.by_lot(&mut maker.lot);
-        let blanks = share(&mut maker.lot);
-        maker.make(count, streets, if k / 16 % 2 == 0 { 0 } else { blanks })?;
-        maker.make_lone();
-        trials.tally.count_lone_row();
-        trials.test_row(&maker.row, streets)?;
+        let count = Length::Short.by_lot(lot);
+        let blanks = share(lot);
+        let plan = Plan {
+            streets,
+            count,
+            share: (k / 16 % 2 != 0).then_some(blanks),
+        };
+        let mut placing = draw_row(trials.alloc, lot, plan)?;
+        make_lone(lot, &mut placing);
+        trials.tally.count(Count::LoneRows);
+        trials.test_row(&placing.row()?, streets)?;
     }
     Ok(())
 }

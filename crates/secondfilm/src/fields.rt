@@ -1,11 +1,10 @@
-// Fields of bits, most significant first, written and read bit by bit.
-use std::alloc::{AllocError, Global};
+// Fields of bits, the most significant first, written and read bit by bit.
 
 // Reads the fields of some bytes in turn.
 #[derive(Drop)]
 pub struct Fields<'a> {
     bytes: &'a [u8],
-    // How many bits were read.
+    // How many bits were read: a slice alone cannot begin within a byte.
     place: usize,
 }
 
@@ -16,43 +15,49 @@ impl<'a> Fields<'a> {
     }
 
     // The next bit, 0 past the end.
-    fn bit(&mut self) -> usize {
+    pub fn bit(&mut self) -> bool {
         let byte = self.bytes.get(self.place / 8).copied().unwrap_or(0);
         let bit = byte >> (7 - self.place % 8) & 1;
         self.place = self.place.saturating_add(1);
-        usize::from(bit)
+        bit == 1
     }
 
     // The next field of so many bits.
     pub fn take(&mut self, width: usize) -> usize {
         let mut value = 0;
         for _ in 0..width {
-            value = value << 1 | self.bit();
+            value = value << 1 | usize::from(self.bit());
         }
         value
     }
 }
 
-// Adds the lowest `width` bits of a value.
-pub fn put_field(bits: &mut Vec<bool>, width: usize, value: usize) -> Result<(), AllocError> {
-    for k in (0..width).rev() {
-        bits.push(k < 64 && value >> k & 1 == 1)?;
-    }
-    Ok(())
+// Writes fields one behind another into bytes that are 0.
+#[derive(Drop)]
+pub struct FieldWriter<'a> {
+    bytes: &'a mut [u8],
+    // How many bits were written, for the same reason.
+    place: usize,
 }
 
-// The byte of eight bits, or of fewer and zeros.
-fn byte_of(bits: &[bool]) -> u8 {
-    let mut byte = 0;
-    for (bit, weight) in bits.iter().zip([128, 64, 32, 16, 8, 4, 2, 1]) {
-        if *bit {
-            byte |= weight;
+impl<'a> FieldWriter<'a> {
+    // Begins with the first bit.
+    pub fn new(bytes: &'a mut [u8]) -> FieldWriter<'a> {
+        FieldWriter { bytes, place: 0 }
+    }
+
+    // Adds a bit; past the end it is lost.
+    pub fn put_bit(&mut self, bit: bool) {
+        if let Some(byte) = self.bytes.get_mut(self.place / 8) {
+            *byte |= u8::from(bit) << (7 - self.place % 8);
+        }
+        self.place = self.place.saturating_add(1);
+    }
+
+    // Adds the lowest `width` bits of a value.
+    pub fn put_field(&mut self, width: usize, value: usize) {
+        for k in (0..width).rev() {
+            self.put_bit(k < 64 && value >> k & 1 == 1);
         }
     }
-    byte
-}
-
-// The bytes of some bits, the last one filled up with zeros.
-pub fn bytes_of(alloc: Global, bits: &[bool]) -> Result<Vec<u8>, AllocError> {
-    bits.chunks(8).map(byte_of).collect(alloc)
 }

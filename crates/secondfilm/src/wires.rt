@@ -1,23 +1,45 @@
 // Document 01's wire rules, tested point by point on a film's records; and that no record comes to a blank's pin.
-use crate::records::{Record, decode};
+use crate::records::{AXIS, Place, Run, Step, decode};
 use secondrouter::nets::{Kind, Node};
+use secondrouter::placing::Placing;
 use secondrouter::streets::Streets;
 use std::alloc::{AllocError, Global};
-
-// Levels −4 to 4 stand at 0 to 8, so the pins at 4.
-pub const AXIS: usize = 4;
+use std::mem;
 
 const LEVELS: usize = 9;
 
-// A step of a record from a point to the next one.
-#[derive(Clone, Copy, PartialEq, Eq, Debug)]
-pub enum Step {
-    Right,
-    Up,
+// Why a film is not one of a placing's. `JudgeError` and `Failure` have a cause beside `Memory` too: in one generic enum each cause would be matched inside
+// `Cause(..)`, and this one would be `Cause(())`.
+#[derive(Clone, Copy, PartialEq, Eq)]
+pub enum FilmError {
+    Broken,
+    Memory(AllocError),
 }
 
-// What is kept of a point of the film.
-#[derive(Clone, Copy)]
+// A wire rule is broken, or what is to be there is not: alone the error of what cannot run out of memory.
+#[derive(Clone, Copy, PartialEq, Eq)]
+pub struct Broken;
+
+impl From<Broken> for FilmError {
+    fn from(_: Broken) -> FilmError {
+        FilmError::Broken
+    }
+}
+
+impl From<AllocError> for FilmError {
+    fn from(error: AllocError) -> FilmError {
+        FilmError::Memory(error)
+    }
+}
+
+// Fails where a rule is broken.
+fn holds(rule: bool) -> Result<(), Broken> {
+    if rule { Ok(()) } else { Err(Broken) }
+}
+
+// What is kept of a point of the film: at first that no record comes to it. Its steps are two flags and no array by step: the cut asks for
+// those to the right alone.
+#[derive(Clone, Copy, Default)]
 struct Point {
     // The net that has it.
     net: Option<u8>,
@@ -29,14 +51,6 @@ struct Point {
     reached: bool,
 }
 
-// A point that no record comes to.
-const BARE: Point = Point {
-    net: None,
-    right: false,
-    up: false,
-    reached: false,
-};
-
 impl Point {
     // Whether a record has a step from here.
     fn has(&self, step: Step) -> bool {
@@ -46,18 +60,28 @@ impl Point {
         }
     }
 
-    fn set(&mut self, step: Step, has: bool) {
+    // Says whether a record has a step from here; gives whether one had.
+    fn set(&mut self, step: Step, has: bool) -> bool {
         match step {
-            Step::Right => self.right = has,
-            Step::Up => self.up = has,
+            Step::Right => mem::replace(&mut self.right, has),
+            Step::Up => mem::replace(&mut self.up, has),
         }
     }
 
-    // Gives the point to a net; false if another net has it.
-    fn give(&mut self, net: u8) -> bool {
-        let fits = self.net.is_none() || self.net == Some(net);
-        self.net = Some(net);
-        fits
+    // Gives the point to a net. It may have no other.
+    fn give(&mut self, net: u8) -> Result<(), Broken> {
+        holds(*self.net.get_or_insert(net) == net)
+    }
+
+    // Lays a step of a net's record. No other record may have it.
+    fn lay(&mut self, step: Step, net: u8) -> Result<(), Broken> {
+        holds(!self.set(step, true))?;
+        self.give(net)
+    }
+
+    // Takes a step of a net away. It has to be there.
+    fn take(&mut self, step: Step, net: u8) -> Result<(), Broken> {
+        holds(self.set(step, false) && self.net == Some(net))
     }
 }
 
@@ -66,33 +90,44 @@ pub fn column_of(i: usize) -> usize {
     i.saturating_mul(16)
 }
 
+// The pin of node `i`.
+fn pin(i: usize) -> Place {
+    Place {
+        column: column_of(i),
+        level: AXIS,
+    }
+}
+
 // Whether a level lies on a track of the two streets, or on the axis.
 fn in_streets(level: usize, streets: Streets) -> bool {
     AXIS.saturating_sub(usize::from(streets.lower)) <= level
         && level <= AXIS + usize::from(streets.upper)
 }
 
+// Whether a record keeps to the streets. A horizontal may not lie on the axis.
+fn is_inside(record: &Run, streets: Streets) -> bool {
+    in_streets(record.from.level, streets)
+        && in_streets(record.place(record.count).level, streets)
+        && (record.step == Step::Up || record.from.level != AXIS)
+}
+
 // Whether two horizontals of a net go on from a column to the next one.
 fn is_cut_twice(column: &[Point]) -> bool {
-    for (i, point) in column.iter().enumerate() {
-        if point.right
+    column.iter().enumerate().any(|(i, point)| {
+        point.right
             && column
                 .iter()
                 .take(i)
                 .any(|other| other.right && other.net == point.net)
-        {
-            return true;
-        }
-    }
-    false
+    })
 }
 
 // The points of a film, column by column. They keep their memory from one film to the next.
 #[derive(Drop)]
 pub struct Film {
     columns: Vec<[Point; LEVELS]>,
-    // Points that the walk came to and has not left yet.
-    open: Vec<(usize, usize)>,
+    // Places that the walk came to and has not left yet.
+    open: Vec<Place>,
 }
 
 impl Film {
@@ -104,227 +139,149 @@ impl Film {
         }
     }
 
-    // The point at a column and a level; none past the last pin's column.
-    fn point(&self, column: usize, level: usize) -> Option<&Point> {
-        self.columns.get(column)?.get(level)
+    // The point at a place; none past the last pin's column.
+    fn point(&self, place: Place) -> Option<&Point> {
+        self.columns.get(place.column)?.get(place.level)
     }
 
-    // The same, to be changed.
-    fn point_mut(&mut self, column: usize, level: usize) -> Option<&mut Point> {
-        self.columns.get_mut(column)?.get_mut(level)
+    // The same, to be changed: `&` and `&mut` are two types. No record may need one that is not there.
+    fn point_mut(&mut self, place: Place) -> Result<&mut Point, Broken> {
+        self.columns
+            .get_mut(place.column)
+            .and_then(|column| column.get_mut(place.level))
+            .ok_or(Broken)
     }
 
-    // Gives a point to a net; false if another net has it, or it lies outside.
-    fn give(&mut self, column: usize, level: usize, net: u8) -> bool {
-        match self.point_mut(column, level) {
-            Some(point) => point.give(net),
-            None => false,
+    // Lays a record. It goes one point farther than `take`, and asks another thing of each point: one loop for both would take that as a closure.
+    fn lay(&mut self, record: Run) -> Result<(), Broken> {
+        for k in 0..record.count {
+            self.point_mut(record.place(k))?
+                .lay(record.step, record.net)?;
         }
+        self.point_mut(record.place(record.count))?.give(record.net)
     }
 
-    // Lays a step of a net's record; false if a record has that step, or another net the point.
-    fn lay(&mut self, column: usize, level: usize, step: Step, net: u8) -> bool {
-        let Some(point) = self.point_mut(column, level) else {
-            return false;
-        };
-        if point.has(step) {
-            return false;
+    // Takes the steps of a run away.
+    pub fn take(&mut self, run: Run) -> Result<(), Broken> {
+        for k in 0..run.count {
+            self.point_mut(run.place(k))?.take(run.step, run.net)?;
         }
-        point.set(step, true);
-        point.give(net)
-    }
-
-    // Takes a step of a net away; false if it is not there.
-    pub fn take(&mut self, column: usize, level: usize, step: Step, net: u8) -> bool {
-        let Some(point) = self.point_mut(column, level) else {
-            return false;
-        };
-        if !point.has(step) || point.net != Some(net) {
-            return false;
-        }
-        point.set(step, false);
-        true
-    }
-
-    fn lay_horizontal(&mut self, net: u8, level: usize, left: usize, right: usize) -> bool {
-        for column in left..right {
-            if !self.lay(column, level, Step::Right, net) {
-                return false;
-            }
-        }
-        self.give(right, level, net)
-    }
-
-    fn lay_vertical(&mut self, net: u8, column: usize, lower: usize, higher: usize) -> bool {
-        for level in lower..higher {
-            if !self.lay(column, level, Step::Up, net) {
-                return false;
-            }
-        }
-        self.give(column, higher, net)
-    }
-
-    // Lays a record; false if it breaks a rule.
-    fn lay_record(&mut self, record: Record, streets: Streets) -> bool {
-        match record {
-            Record::Horizontal {
-                net,
-                level,
-                left,
-                right,
-            } => {
-                level != AXIS
-                    && in_streets(level, streets)
-                    && left < right
-                    && self.lay_horizontal(net, level, left, right)
-            }
-            Record::Vertical {
-                net,
-                column,
-                lower,
-                higher,
-            } => {
-                in_streets(lower, streets)
-                    && in_streets(higher, streets)
-                    && lower < higher
-                    && self.lay_vertical(net, column, lower, higher)
-            }
-        }
+        Ok(())
     }
 
     // Lays all records. A step that is laid twice is a fault, so no record is there twice.
-    fn lay_all(&mut self, film: &[u8], streets: Streets) -> bool {
+    fn lay_all(&mut self, film: &[u8], streets: Streets) -> Result<(), Broken> {
         for bytes in film.chunks_exact(5) {
-            let Some(record) = decode(bytes) else {
-                return false;
-            };
-            if !self.lay_record(record, streets) {
-                return false;
-            }
-        }
-        true
-    }
-
-    // Comes to a point, once, and lists it.
-    fn reach(&mut self, column: usize, level: usize) -> Result<(), AllocError> {
-        let Some(point) = self.point_mut(column, level) else {
-            return Ok(());
-        };
-        if !point.reached {
-            point.reached = true;
-            self.open.push((column, level))?;
+            let record = decode(bytes).ok_or(Broken)?;
+            holds(is_inside(&record, streets))?;
+            self.lay(record)?;
         }
         Ok(())
     }
 
-    // Whether a record has a step from a point.
-    fn has(&self, column: usize, level: usize, step: Step) -> bool {
-        self.point(column, level)
-            .is_some_and(|point| point.has(step))
-    }
-
-    // Comes to the points that a record's step joins to this one.
-    fn spread(&mut self, column: usize, level: usize) -> Result<(), AllocError> {
-        if self.has(column, level, Step::Right) {
-            self.reach(column.saturating_add(1), level)?;
-        }
-        if self.has(column, level, Step::Up) {
-            self.reach(column, level.saturating_add(1))?;
-        }
-        if let Some(left) = column.checked_sub(1) {
-            if self.has(left, level, Step::Right) {
-                self.reach(left, level)?;
-            }
-        }
-        if let Some(below) = level.checked_sub(1) {
-            if self.has(column, below, Step::Up) {
-                self.reach(column, below)?;
-            }
+    // Comes to a place, once, and lists it.
+    fn reach(&mut self, place: Place) -> Result<(), FilmError> {
+        let point = self.point_mut(place)?;
+        if !mem::replace(&mut point.reached, true) {
+            self.open.push(place).map_err(AllocError::from)?;
         }
         Ok(())
+    }
+
+    // Whether a record has a step from a place.
+    fn has(&self, place: Place, step: Step) -> bool {
+        self.point(place).is_some_and(|point| point.has(step))
+    }
+
+    // Comes to the places that such a step joins to this one.
+    fn spread(&mut self, place: Place, step: Step) -> Result<(), FilmError> {
+        if self.has(place, step) {
+            self.reach(place.after(step, 1))?;
+        }
+        match place.before(step) {
+            Some(before) if self.has(before, step) => self.reach(before),
+            _ => Ok(()),
+        }
     }
 
     // Comes to the pin of each net's first node.
-    fn start(&mut self, nodes: &[Node]) -> Result<(), AllocError> {
+    fn start(&mut self, nodes: &[Node]) -> Result<(), FilmError> {
         self.open.clear();
         for (i, node) in nodes.iter().enumerate() {
             if node.kind == Kind::First {
-                self.reach(column_of(i), AXIS)?;
+                self.reach(pin(i))?;
             }
         }
         Ok(())
     }
 
-    // Walks along records from the pins of first nodes; each point is listed once.
-    fn walk(&mut self, nodes: &[Node]) -> Result<(), AllocError> {
+    // Walks along records from the pins of first nodes. Each point is listed once, so there are no more turns than points; a
+    // `while let` would need a measure that says so.
+    fn walk(&mut self, nodes: &[Node]) -> Result<(), FilmError> {
         self.start(nodes)?;
         for _ in 0..self.columns.len().saturating_mul(LEVELS) {
-            let Some((column, level)) = self.open.pop() else {
+            let Some(place) = self.open.pop() else {
                 break;
             };
-            self.spread(column, level)?;
+            self.spread(place, Step::Right)?;
+            self.spread(place, Step::Up)?;
         }
         Ok(())
     }
 
     // Whether the walk came to a node's pin, as a point of its net; or no record came to it, if the node is a blank.
     fn is_joined(&self, i: usize, node: &Node) -> bool {
-        let Some(pin) = self.point(column_of(i), AXIS) else {
-            return false;
-        };
-        pin.net == node.net && pin.reached == node.net.is_some()
+        self.point(pin(i)).is_some_and(|pin| pin.net == node.net
+            && pin.reached == node.net.is_some())
     }
 
-    fn all_joined(&self, nodes: &[Node]) -> bool {
-        nodes
+    // Fails unless all nodes are joined.
+    fn test_pins(&self, nodes: &[Node]) -> Result<(), Broken> {
+        holds(
+            nodes
+                .iter()
+                .enumerate()
+                .all(|(i, node)| self.is_joined(i, node)),
+        )
+    }
+
+    // Fails where the cut after a column meets two horizontals of a net, or the walk did not come to a net's point.
+    fn test_points(&self) -> Result<(), Broken> {
+        holds(!self.columns.iter().any(|column| is_cut_twice(column)))?;
+        holds(
+            self.columns.iter().all(|column| {
+                column
+                    .iter()
+                    .all(|point| point.net.is_none() || point.reached)
+            }),
+        )
+    }
+
+    // How many points nets have.
+    fn count(&self) -> usize {
+        self.columns
             .iter()
-            .enumerate()
-            .all(|(i, node)| self.is_joined(i, node))
+            .map(|column| column.iter().filter(|point| point.net.is_some()).count())
+            .fold(0, usize::saturating_add)
     }
 
-    // How many points nets have; none if the walk did not come to one of them, or the cut after a column meets two horizontals of a net.
-    fn count(&self) -> Option<usize> {
-        let mut count: usize = 0;
-        for column in &self.columns {
-            if is_cut_twice(column) {
-                return None;
-            }
-            for point in column {
-                if point.net.is_some() {
-                    if !point.reached {
-                        return None;
-                    }
-                    count = count.saturating_add(1);
-                }
-            }
-        }
-        Some(count)
-    }
-
-    // Has the columns from the first of so many pins to the last, with bare points.
+    // Has the columns from the first of so many pins to the last, with no record.
     fn clear(&mut self, nodes: usize) -> Result<(), AllocError> {
         let last = column_of(nodes.saturating_sub(1));
         self.columns.clear();
-        self.columns.resize(last.saturating_add(1), [BARE; LEVELS])?;
+        self.columns
+            .resize(last.saturating_add(1), [Point::default(); LEVELS])?;
         Ok(())
     }
 
-    // Tests all wire rules on a film's records of a placing, and gives how many points they have; none if a rule is broken. A piece that joins no pin is a fault
-    // too. Blanks alone have no records and no points.
-    pub fn points(
-        &mut self,
-        film: &[u8],
-        nodes: &[Node],
-        streets: Streets,
-    ) -> Result<Option<usize>, AllocError> {
-        self.clear(nodes.len())?;
-        if !self.lay_all(film, streets) {
-            return Ok(None);
-        }
-        self.walk(nodes)?;
-        if !self.all_joined(nodes) {
-            return Ok(None);
-        }
+    // Tests all wire rules on a film's records of a placing, and gives how many points they have. A piece that joins no pin is a fault too. Blanks alone have no
+    // records and no points.
+    pub fn count_points(&mut self, film: &[u8], placing: &Placing) -> Result<usize, FilmError> {
+        self.clear(placing.nodes.len())?;
+        self.lay_all(film, placing.streets)?;
+        self.walk(&placing.nodes)?;
+        self.test_pins(&placing.nodes)?;
+        self.test_points()?;
         Ok(self.count())
     }
 

@@ -3,6 +3,7 @@ use secondfilm::fields::Fields;
 use secondfilm::sheets::sheet_need;
 use secondrouter::nets::{Kind, Node, count_open, label_of};
 use secondrouter::orders::Order;
+use secondrouter::placing::Placing;
 use secondrouter::streets::Streets;
 use std::alloc::{AllocError, Global};
 
@@ -34,36 +35,6 @@ pub enum Fault {
     Nets,
 }
 
-impl Fault {
-    // The number that the documents give it.
-    pub fn number(self) -> u32 {
-        match self {
-            Fault::Count => 11,
-            Fault::Streets => 12,
-            Fault::Length => 13,
-            Fault::Position(_) => 16,
-            Fault::Upper(_) => 17,
-            Fault::Open(_) => 18,
-            Fault::Padding => 19,
-            Fault::Nets => 23,
-            Fault::Lower(_) => 30,
-            Fault::Tracks(_) => 31,
-        }
-    }
-
-    // The place that goes with the number: the node, or 0 where the fault is at none.
-    pub fn place(self) -> usize {
-        match self {
-            Fault::Position(place)
-            | Fault::Upper(place)
-            | Fault::Lower(place)
-            | Fault::Tracks(place)
-            | Fault::Open(place) => place,
-            Fault::Count | Fault::Streets | Fault::Length | Fault::Padding | Fault::Nets => 0,
-        }
-    }
-}
-
 // The first two bytes of a sheet.
 #[derive(Clone, Copy, PartialEq, Eq, Debug)]
 pub struct Head {
@@ -71,11 +42,23 @@ pub struct Head {
     pub nodes: usize,
 }
 
-// A sheet without a fault.
-#[derive(Drop)]
-pub struct Sheet {
-    pub streets: Streets,
-    pub nodes: Vec<Node>,
+// Why a sheet is not taken: its first fault, or memory runs out.
+#[derive(Clone, Copy, PartialEq, Eq)]
+pub enum JudgeError {
+    Fault(Fault),
+    Memory(AllocError),
+}
+
+impl From<Fault> for JudgeError {
+    fn from(fault: Fault) -> JudgeError {
+        JudgeError::Fault(fault)
+    }
+}
+
+impl From<AllocError> for JudgeError {
+    fn from(error: AllocError) -> JudgeError {
+        JudgeError::Memory(error)
+    }
 }
 
 // The sheet's node count as its bits stand.
@@ -91,6 +74,7 @@ pub fn read_head(sheet: &[u8]) -> Result<Head, Fault> {
     if sheet.len() < 2 || !(2..=512).contains(&nodes) {
         return Err(Fault::Count);
     }
+    // Ku and Kl stand side by side as the number of the pair: two fields apart did not prove, since no contract says that a field of so few bits fits a byte.
     let pair = Fields::new(sheet).take(6);
     if 15 < pair {
         return Err(Fault::Streets);
@@ -104,7 +88,7 @@ pub fn read_head(sheet: &[u8]) -> Result<Head, Fault> {
 
 // The next node of a sheet.
 fn take_node(fields: &mut Fields) -> Node {
-    let kind = Kind::from_bits(fields.take(2));
+    let kind = Kind::from([fields.bit(), fields.bit()]);
     Node::new(kind, fields.take(4))
 }
 
@@ -112,17 +96,14 @@ fn take_node(fields: &mut Fields) -> Node {
 pub fn unpack(alloc: Global, sheet: &[u8], count: usize) -> Result<Vec<Node>, AllocError> {
     let mut fields = Fields::new(sheet);
     fields.take(16);
-    let mut nodes = Vec::with_capacity(alloc, count)?;
-    for _ in 0..count {
-        nodes.push(take_node(&mut fields))?;
-    }
+    let mut nodes: Vec<Node> = (0..count).map(|_| take_node(&mut fields)).collect(alloc)?;
     count_open(&mut nodes);
     Ok(nodes)
 }
 
 // Tests a node, which is this one: the first of 16, 17, 30 and 31 that is to be said of it.
 fn test_node(node: &Node, place: usize, streets: Streets) -> Result<(), Fault> {
-    let own = if node.kind == Kind::Blank { 0 } else { 1 };
+    let own = usize::from(node.kind != Kind::Blank);
     let Some(below) = node.open.checked_sub(node.position.saturating_add(own)) else {
         return Err(Fault::Position(place));
     };
@@ -164,29 +145,17 @@ fn test_end(sheet: &[u8], nodes: &[Node]) -> Result<(), Fault> {
     Ok(())
 }
 
-// Tests the body of a sheet, whose nodes these are: its first fault.
-fn test_body(sheet: &[u8], nodes: &[Node], streets: Streets) -> Result<(), Fault> {
-    test_nodes(nodes, streets)?;
-    test_end(sheet, nodes)
-}
-
 // The streets and nodes of a sheet, which have no nets yet; or its first fault, 14, 21 and 23 aside.
-pub fn judge(alloc: Global, sheet: &[u8]) -> Result<Result<Sheet, Fault>, AllocError> {
-    let head = match read_head(sheet) {
-        Ok(head) => head,
-        Err(fault) => return Ok(Err(fault)),
-    };
-    let nodes = unpack(alloc, sheet, head.nodes)?;
-    if let Err(fault) = test_body(sheet, &nodes, head.streets) {
-        return Ok(Err(fault));
-    }
-    Ok(Ok(Sheet {
-        streets: head.streets,
-        nodes,
-    }))
+pub fn judge(alloc: Global, sheet: &[u8]) -> Result<Placing, JudgeError> {
+    let Head { streets, nodes } = read_head(sheet)?;
+    let nodes = unpack(alloc, sheet, nodes)?;
+    test_nodes(&nodes, streets)?;
+    test_end(sheet, &nodes)?;
+    Ok(Placing { streets, nodes })
 }
 
-// Gives each node its net's number, none at a blank, and gives how many nets there are. The nodes' limits hold.
+// Gives each node its net's number, none at a blank, and gives how many nets there are. That goes beside the placing: a type for both would have no
+// method of its own. The nodes' limits hold.
 pub fn number_nets(nodes: &mut [Node]) -> usize {
     let mut order = Order::new();
     let mut nets: usize = 0;
@@ -210,14 +179,9 @@ pub fn reader_answer(nodes: usize, nets: usize) -> Result<usize, Fault> {
 
 // Whether the first node of a label is that of a net, as a net is known by its first node; or both are a blank's.
 fn is_alike(row: &[u8], nodes: &[Node], label: u8, net: Option<u8>) -> bool {
-    match (label_of(label), net) {
-        (None, None) => true,
-        (Some(_), Some(_)) => {
-            let first = nodes.iter().position(|node| node.net == net);
-            row.iter().position(|other| *other == label) == first
-        }
-        _ => false,
-    }
+    let first_of_label = label_of(label).and_then(|_| row.iter().position(|other| *other == label));
+    let first_of_net = net.and_then(|_| nodes.iter().position(|node| node.net == net));
+    first_of_label == first_of_net
 }
 
 // Whether a row joins its nodes as these are joined, and leaves the same ones blank.

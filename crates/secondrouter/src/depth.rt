@@ -1,34 +1,27 @@
 // The first placing by plain depth first search, for short rows.
-use crate::nets::{Kind, Node};
+use crate::nets::Node;
 use crate::orders::Order;
+use crate::passage::Passage;
+use crate::placing::{PlaceError, Placing};
 use crate::streets::Streets;
 
-// Whether a node can be passed at a position. A node that opens no net has one to choose: its net's; at a blank the fewest wires above, as another number would
-// leave the order as it is.
-fn allows(node: &Node, order: &Order, position: usize, streets: Streets) -> bool {
-    match node.kind {
-        Kind::First => streets.fits(position, node.open),
-        Kind::Inner | Kind::Last => {
-            node.net.and_then(|net| order.position(net)) == Some(position)
-                && streets.fits(position, node.open)
-        }
-        Kind::Blank => streets.fewest_above(node.open) == Some(position),
-    }
-}
-
 // Places nodes that find an order of open nets; or says how many of them, from the first on, some choice of positions serves at the most.
-fn place_after(nodes: &mut [Node], order: &Order, streets: Streets) -> Result<(), usize> {
+fn place_after(nodes: &mut [Node], order: Order, streets: Streets) -> Result<(), usize> {
     let Some((node, rest)) = nodes.split_first_mut() else {
         return Ok(());
     };
+    let passage = Passage {
+        order,
+        node: *node,
+        streets,
+    };
     let choices = node.open.saturating_add(1);
     let mut most = 0;
+    // No chain: it writes the position on the way, ends at the first success, and else has the most that any position served.
     for position in 0..choices {
-        if allows(node, order, position, streets) {
+        if let Some(after) = passage.after(position) {
             node.position = position;
-            let mut after = *order;
-            after.pass(node, node.net);
-            let Err(served) = place_after(rest, &after, streets) else {
+            let Err(served) = place_after(rest, after, streets) else {
                 return Ok(());
             };
             most = most.max(served.saturating_add(1));
@@ -37,7 +30,8 @@ fn place_after(nodes: &mut [Node], order: &Order, streets: Streets) -> Result<()
     Err(most)
 }
 
-// Writes the positions of a row's first placing; or says which is the first node such that no choice serves it and those before it.
-pub fn place(nodes: &mut [Node], streets: Streets) -> Result<(), usize> {
-    place_after(nodes, &Order::new(), streets)
+// A row's first placing; or which is the first node such that no choice serves it and those before it.
+pub fn place(mut placing: Placing) -> Result<Placing, PlaceError> {
+    place_after(&mut placing.nodes, Order::new(), placing.streets).map_err(PlaceError::Stuck)?;
+    Ok(placing)
 }

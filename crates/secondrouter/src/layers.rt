@@ -1,216 +1,103 @@
 // The first placing by layers: after each node the list of all distinct orders that the rest of the row can be completed from.
 use crate::nets::{Kind, Node};
 use crate::orders::Order;
+use crate::passage::Passage;
+use crate::placing::{PlaceError, Placing};
 use crate::streets::Streets;
 use std::alloc::{AllocError, Global};
 use std::mem;
 
-// Every order that a net makes of an order where it fits.
-fn insert_each(
-    order: Order,
-    net: u8,
-    open: usize,
-    streets: Streets,
-    into: &mut Vec<Order>,
-) -> Result<(), AllocError> {
-    for position in 0..open {
-        if streets.fits(position, open) {
-            let mut after = order;
-            after.insert(position, net);
+// Adds the orders that an order leads to across a node. Two orders lead to the same one only where a net comes out of them, so a layer is a list and no ordered set:
+// only last nodes need the test.
+fn give(passage: Passage, into: &mut Vec<Order>) -> Result<(), AllocError> {
+    for after in (0..=passage.node.open).filter_map(|position| passage.after(position)) {
+        if passage.node.kind != Kind::Last || !into.contains(&after) {
             into.push(after)?;
         }
     }
     Ok(())
 }
 
-// The order without a net, if the net fits in it and no other order has left the same.
-fn remove_one(order: Order, position: usize, into: &mut Vec<Order>) -> Result<(), AllocError> {
-    let mut after = order;
-    after.remove(position);
-    if !into.contains(&after) {
-        into.push(after)?;
-    }
-    Ok(())
-}
-
-// The position of a net in an order, if it fits there.
-fn fitting(order: &Order, net: u8, open: usize, streets: Streets) -> Option<usize> {
-    order
-        .position(net)
-        .filter(|position| streets.fits(*position, open))
-}
-
-// What an order gives to the next layer at a node whose net goes in (first), stays (inner) or comes out (last), or where all wires go round (blank).
-fn give(
-    order: Order,
-    node: &Node,
-    kind: Kind,
-    streets: Streets,
-    into: &mut Vec<Order>,
-) -> Result<(), AllocError> {
-    let Some(net) = node.net else {
-        if streets.fewest_above(node.open).is_some() {
-            into.push(order)?;
-        }
-        return Ok(());
-    };
-    if kind == Kind::First {
-        return insert_each(order, net, node.open, streets, into);
-    }
-    let Some(position) = fitting(&order, net, node.open, streets) else {
-        return Ok(());
-    };
-    if kind == Kind::Last {
-        return remove_one(order, position, into);
-    }
-    into.push(order)?;
-    Ok(())
-}
-
-// Makes a layer of another one across a node.
+// The layer that another one leads to across a node.
 fn across(
+    alloc: Global,
     from: &[Order],
-    node: &Node,
-    kind: Kind,
+    node: Node,
     streets: Streets,
-    into: &mut Vec<Order>,
-) -> Result<(), AllocError> {
-    into.clear();
+) -> Result<Vec<Order>, AllocError> {
+    let mut into = Vec::new(alloc);
     for order in from {
-        give(*order, node, kind, streets, into)?;
+        let passage = Passage {
+            order: *order,
+            node,
+            streets,
+        };
+        give(passage, &mut into)?;
     }
-    Ok(())
+    Ok(into)
 }
 
 // What a node does where the row is gone through from its end: a last node opens its net, a first one closes it.
-fn turned(kind: Kind) -> Kind {
-    match kind {
+fn turned(node: &Node) -> Node {
+    let kind = match node.kind {
         Kind::First => Kind::Last,
         Kind::Last => Kind::First,
-        Kind::Inner | Kind::Blank => kind,
-    }
-}
-
-// The smallest position at which a net leads on from an order to one of the next layer.
-fn smallest(
-    order: &Order,
-    net: u8,
-    open: usize,
-    streets: Streets,
-    next: &[Order],
-) -> Option<usize> {
-    for position in 0..open {
-        let mut after = *order;
-        after.insert(position, net);
-        if streets.fits(position, open) && next.contains(&after) {
-            return Some(position);
-        }
-    }
-    None
-}
-
-// The position at a node that the placing's order comes to, where `next` are the orders that lead on.
-fn position_at(order: &Order, node: &Node, streets: Streets, next: &[Order]) -> Option<usize> {
-    let Some(net) = node.net else {
-        return streets.fewest_above(node.open);
+        Kind::Inner | Kind::Blank => node.kind,
     };
-    if node.kind == Kind::First {
-        return smallest(order, net, node.open, streets, next);
-    }
-    order.position(net)
+    Node { kind, ..*node }
 }
 
-// The layers of a row. They keep their memory from one row to the next.
-#[derive(Drop)]
-pub struct Layers {
-    alloc: Global,
-    // The layer before the node that is passed, and the one after it.
-    before: Vec<Order>,
-    after: Vec<Order>,
-    // For each node, from the last one back, the orders after it from which the rest of the row can be completed.
-    completed: Vec<Vec<Order>>,
+// The layer at an end of the row, where no net is open.
+fn at_end(alloc: Global) -> Result<Vec<Order>, AllocError> {
+    Ok(vec![in alloc; Order::new()]?)
 }
 
-impl Layers {
-    // No layers yet.
-    pub fn new(alloc: Global) -> Layers {
-        Layers {
-            alloc,
-            before: Vec::new(alloc),
-            after: Vec::new(alloc),
-            completed: Vec::new(alloc),
+// Fails at the first node after which no order is left going forward.
+fn test_forward(placing: &Placing) -> Result<(), PlaceError> {
+    let alloc = *placing.nodes.allocator();
+    let mut layer = at_end(alloc)?;
+    for (i, node) in placing.nodes.iter().enumerate() {
+        layer = across(alloc, &layer, *node, placing.streets)?;
+        if layer.is_empty() {
+            return Err(PlaceError::Stuck(i));
         }
     }
+    Ok(())
+}
 
-    // Begins with the layer at an end of the row, where no net is open.
-    fn begin(&mut self) -> Result<(), AllocError> {
-        self.before.clear();
-        self.before.push(Order::new())?;
-        Ok(())
+// For each node, from the last one back, the orders after it from which the rest of the row can be completed.
+fn completed(placing: &Placing) -> Result<Vec<Vec<Order>>, AllocError> {
+    let alloc = *placing.nodes.allocator();
+    let mut layers = Vec::new(alloc);
+    let mut layer = at_end(alloc)?;
+    for node in placing.nodes.iter().rev() {
+        let before = across(alloc, &layer, turned(node), placing.streets)?;
+        layers.push(mem::replace(&mut layer, before))?;
     }
+    Ok(layers)
+}
 
-    // The first node after which no order is left going forward; none if the row has a placing.
-    fn failing(&mut self, nodes: &[Node], streets: Streets) -> Result<Option<usize>, AllocError> {
-        self.begin()?;
-        for (i, node) in nodes.iter().enumerate() {
-            across(&self.before, node, node.kind, streets, &mut self.after)?;
-            if self.after.is_empty() {
-                return Ok(Some(i));
-            }
-            mem::swap(&mut self.before, &mut self.after);
-        }
-        Ok(None)
-    }
-
-    // Has a layer for each of so many nodes.
-    fn reserve(&mut self, nodes: usize) -> Result<(), AllocError> {
-        for _ in self.completed.len()..nodes {
-            self.completed.push(Vec::new(self.alloc))?;
-        }
-        Ok(())
-    }
-
-    // Lists, from the last node back, the orders that the rest of the row can be completed from.
-    fn complete(&mut self, nodes: &[Node], streets: Streets) -> Result<(), AllocError> {
-        self.begin()?;
-        self.reserve(nodes.len())?;
-        for (node, layer) in nodes.iter().rev().zip(self.completed.iter_mut()) {
-            across(
-                &self.before,
-                node,
-                turned(node.kind),
-                streets,
-                &mut self.after,
-            )?;
-            mem::swap(layer, &mut self.before);
-            mem::swap(&mut self.before, &mut self.after);
-        }
-        Ok(())
-    }
-
-    // Goes forward over the completed layers, always to the smallest position.
-    fn first(&self, nodes: &mut [Node], streets: Streets) {
-        let mut order = Order::new();
-        let layers = self.completed.iter().take(nodes.len()).rev();
-        for (node, next) in nodes.iter_mut().zip(layers) {
-            if let Some(position) = position_at(&order, node, streets, next) {
-                node.position = position;
-                order.pass(node, node.net);
-            }
+// Goes forward over such layers, always to the smallest position.
+fn choose_first(placing: &mut Placing, layers: &[Vec<Order>]) {
+    let streets = placing.streets;
+    let mut order = Order::new();
+    for (node, next) in placing.nodes.iter_mut().zip(layers.iter().rev()) {
+        let passage = Passage {
+            order,
+            node: *node,
+            streets,
+        };
+        if let Some(position) = passage.first_into(next) {
+            node.position = position;
+            order.pass(node, node.net);
         }
     }
+}
 
-    // Writes the positions of a row's first placing; or says which is the first node that no choice serves.
-    pub fn place(
-        &mut self,
-        nodes: &mut [Node],
-        streets: Streets,
-    ) -> Result<Result<(), usize>, AllocError> {
-        if let Some(i) = self.failing(nodes, streets)? {
-            return Ok(Err(i));
-        }
-        self.complete(nodes, streets)?;
-        self.first(nodes, streets);
-        Ok(Ok(()))
-    }
+// A row's first placing; or which is the first node that no choice serves.
+pub fn place(mut placing: Placing) -> Result<Placing, PlaceError> {
+    test_forward(&placing)?;
+    let layers = completed(&placing)?;
+    choose_first(&mut placing, &layers);
+    Ok(placing)
 }

@@ -1,5 +1,6 @@
 // What a row says of its nodes: their kinds, lone labels, how many nets are open, and the nets' numbers. Nodes count from 0 here. A node with the label 255 is a
 // blank of request 1: it stands in no net.
+use crate::placing::PlaceError;
 use std::alloc::{AllocError, Global};
 use std::collections::BTreeMap;
 
@@ -15,24 +16,26 @@ pub enum Kind {
     Blank,
 }
 
-impl Kind {
-    // The kind that two bits of a sheet stand for.
-    pub fn from_bits(bits: usize) -> Kind {
+// The kind that two bits of a sheet stand for.
+impl From<[bool; 2]> for Kind {
+    fn from(bits: [bool; 2]) -> Kind {
         match bits {
-            0 => Kind::First,
-            1 => Kind::Inner,
-            2 => Kind::Last,
-            _ => Kind::Blank,
+            [false, false] => Kind::First,
+            [false, true] => Kind::Inner,
+            [true, false] => Kind::Last,
+            [true, true] => Kind::Blank,
         }
     }
+}
 
-    // The two bits of a sheet that stand for it.
-    pub fn bits(self) -> usize {
-        match self {
-            Kind::First => 0,
-            Kind::Inner => 1,
-            Kind::Last => 2,
-            Kind::Blank => 3,
+// The two bits of a sheet that stand for a kind.
+impl From<Kind> for [bool; 2] {
+    fn from(kind: Kind) -> [bool; 2] {
+        match kind {
+            Kind::First => [false, false],
+            Kind::Inner => [false, true],
+            Kind::Last => [true, false],
+            Kind::Blank => [true, true],
         }
     }
 }
@@ -41,7 +44,7 @@ impl Kind {
 #[derive(Clone, Copy, PartialEq, Eq, Debug)]
 pub struct Node {
     pub kind: Kind,
-    // The net by its label in a row, or by its number; none at a blank.
+    // The net by its label in a row, or by its number; none at a blank. It is not within the kind: nodes of a sheet have kinds before they have numbers.
     pub net: Option<u8>,
     // How many nets are open at the node, with its own if it has one.
     pub open: usize,
@@ -60,6 +63,11 @@ impl Node {
         }
     }
 
+    // The label that names its net, or that of a blank.
+    pub fn label(&self) -> u8 {
+        self.net.unwrap_or(BLANK_LABEL)
+    }
+
     // How many nets are open after the node.
     pub fn open_after(&self) -> usize {
         if self.kind == Kind::Last {
@@ -70,16 +78,13 @@ impl Node {
     }
 }
 
-// The net that a label names; none for a blank's.
+// The net that a label names; none for a blank's. `From` cannot stand here, since both types are std's.
 pub fn label_of(label: u8) -> Option<u8> {
-    if label == BLANK_LABEL {
-        None
-    } else {
-        Some(label)
-    }
+    (label != BLANK_LABEL).then_some(label)
 }
 
-// The kind of node `i` of the row; none where the node has a net's label that stands there only.
+// The kind of node `i` of the row; none where the node has a net's label that stands there only, which is no kind. An error would be made here to be dropped in
+// `is_lone`.
 fn kind_of(row: &[u8], i: usize) -> Option<Kind> {
     let (before, rest) = row.split_at_checked(i)?;
     let (label, after) = rest.split_first()?;
@@ -99,24 +104,29 @@ pub fn is_lone(row: &[u8], i: usize) -> bool {
     i < row.len() && kind_of(row, i).is_none()
 }
 
-// The first node with a label that stands there only.
+// The first node with a label that stands there only: by its number, since what stands before and behind it decides.
 pub fn first_lone(row: &[u8]) -> Option<usize> {
     (0..row.len()).find(|i| is_lone(row, *i))
 }
 
+// Node `i` of a row at position 0, with its kind and label; or that its label stands there only.
+fn node_of(row: &[u8], i: usize, label: u8) -> Result<Node, PlaceError> {
+    let kind = kind_of(row, i).ok_or(PlaceError::Lone(i))?;
+    Ok(Node {
+        net: label_of(label),
+        ..Node::new(kind, 0)
+    })
+}
+
 // The nodes of a row with their kinds, labels and open nets, at position 0; or the first node with a label that stands there only.
-pub fn nodes_of(alloc: Global, row: &[u8]) -> Result<Result<Vec<Node>, usize>, AllocError> {
-    let mut nodes = Vec::with_capacity(alloc, row.len())?;
-    for (i, label) in row.iter().enumerate() {
-        let Some(kind) = kind_of(row, i) else {
-            return Ok(Err(i));
-        };
-        let mut node = Node::new(kind, 0);
-        node.net = label_of(*label);
-        nodes.push(node)?;
-    }
+pub fn nodes_of(alloc: Global, row: &[u8]) -> Result<Vec<Node>, PlaceError> {
+    let mut nodes: Vec<Node> = row
+        .iter()
+        .enumerate()
+        .map(|(i, label)| node_of(row, i, *label))
+        .try_collect(alloc)?;
     count_open(&mut nodes);
-    Ok(Ok(nodes))
+    Ok(nodes)
 }
 
 // Writes how many nets are open at each node, with its own if it has one.
@@ -131,22 +141,18 @@ pub fn count_open(nodes: &mut [Node]) {
     }
 }
 
-// The number of a label's net, a new one where the label is new; none for a blank's.
+// The number of a label's net, a new one where the label is new; none for a blank's, or where no number is left.
 fn number_of(numbers: &mut BTreeMap<u8, u8>, label: u8) -> Result<Option<u8>, AllocError> {
-    if label == BLANK_LABEL {
+    let (Some(net), Ok(next)) = (label_of(label), u8::try_from(numbers.len())) else {
         return Ok(None);
-    }
-    let next = u8::try_from(numbers.len()).unwrap_or(u8::MAX);
-    let number = *numbers.entry(label)?.or_insert(next);
-    Ok(Some(number))
+    };
+    Ok(Some(*numbers.entry(net)?.or_insert(next)))
 }
 
 // The net's number of each node, 0, 1, 2 in the order of the nets' first nodes; none at a blank.
 pub fn numbers_of(alloc: Global, row: &[u8]) -> Result<Vec<Option<u8>>, AllocError> {
     let mut numbers = BTreeMap::new(alloc);
-    let mut nets = Vec::with_capacity(alloc, row.len())?;
-    for label in row {
-        nets.push(number_of(&mut numbers, *label)?)?;
-    }
-    Ok(nets)
+    row.iter()
+        .map(|label| number_of(&mut numbers, *label))
+        .try_collect(alloc)
 }

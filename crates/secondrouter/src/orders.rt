@@ -1,22 +1,27 @@
 // The order of open nets at a place of the row, from the topmost down.
 use crate::nets::{Kind, Node};
-use std::mem;
 
 // Six tracks, and two more for rows that need not have a placing.
 const PLACES: usize = 8;
 
-// The nets of an order, and no net at the places behind the last.
+// The nets of an order, and no net at the places behind the last. An array of fixed size, since each choice of a search copies the order, and a copy of a `Vec`
+// could run out of memory. So says the clone of an `ArrayVec`, which is not `Copy`, by its type.
 #[derive(Clone, Copy, PartialEq, Eq, Debug)]
 pub struct Order {
     nets: [Option<u8>; PLACES],
 }
 
 impl Order {
-    // The order where no net is open.
+    // The order where no net is open. A `Default` beside it would say the same twice.
     pub fn new() -> Order {
         Order {
             nets: [None; PLACES],
         }
+    }
+
+    // How many nets are open.
+    pub fn open(&self) -> usize {
+        self.nets.iter().flatten().count()
     }
 
     // The net at a position.
@@ -31,19 +36,21 @@ impl Order {
 
     // Puts a net at a position, and those from there on one lower; a ninth falls out.
     pub fn insert(&mut self, position: usize, net: u8) {
-        let mut moved = Some(net);
-        for place in self.nets.iter_mut().skip(position) {
-            mem::swap(place, &mut moved);
+        let Some(from) = self.nets.get_mut(position..) else {
+            return;
+        };
+        if let Some(last) = from.last_mut() {
+            *last = Some(net);
+            from.rotate_right(1);
         }
     }
 
     // Takes out the net at a position, and puts those below it one higher.
     pub fn remove(&mut self, position: usize) -> Option<u8> {
-        let mut moved = None;
-        for place in self.nets.iter_mut().skip(position).rev() {
-            mem::swap(place, &mut moved);
-        }
-        moved
+        let from = self.nets.get_mut(position..)?;
+        let net = from.first_mut()?.take();
+        from.rotate_left(1);
+        net
     }
 
     // Passes a node at its position, where `begins` is the net that would begin there, and gives the node's net; none at a blank.

@@ -8,12 +8,17 @@ pub struct Streets {
 }
 
 impl Streets {
-    // One of the sixteen pairs of streets with 0 to 3 tracks, counted round.
+    // One of the sixteen pairs of streets with 0 to 3 tracks. No conversion, since it counts round.
     pub fn nth(k: usize) -> Streets {
         Streets {
             upper: (k / 4 % 4) as u8,
             lower: (k % 4) as u8,
         }
+    }
+
+    // Which of the pairs of streets with 0 to 3 tracks it is.
+    pub fn number(self) -> usize {
+        usize::from(self.upper) * 4 + usize::from(self.lower)
     }
 
     // How many tracks both streets have.
