@@ -5,12 +5,21 @@ use secondrouter::nets::{BLANK_LABEL, Node};
 use std::alloc::{AllocError, Global};
 use tallies::failure::{Failure, Part};
 
-// Fails where the agreement test does not say of a row what it has to; `nodes` are the sheet's, where the reader takes it.
-fn try_row(trial: &mut SheetTrial, nodes: Option<&[Node]>, row: &[u8]) -> Result<(), Failure> {
-    let wanted = nodes.is_some_and(|nodes| joins_alike(row, nodes));
-    let said = sheet::agreement::agrees(row, trial.sheet);
-    trial.tally.count_agreement(wanted);
-    Part::Agreement.holds(said == wanted)
+// A sheet that rows are tried with, and its nodes where the reader takes it.
+#[derive(Drop)]
+struct RowTrials<'t, 'a> {
+    trial: &'t mut SheetTrial<'a>,
+    nodes: Option<&'t [Node]>,
+}
+
+impl RowTrials<'_, '_> {
+    // Fails where the agreement test does not say of a row what it has to.
+    fn try_row(&mut self, row: &[u8]) -> Result<(), Failure> {
+        let wanted = self.nodes.is_some_and(|nodes| joins_alike(row, nodes));
+        let said = sheet::agreement::agrees(row, self.trial.sheet);
+        self.trial.tally.count_agreement(wanted);
+        Part::Agreement.holds(said == wanted)
+    }
 }
 
 // A label other than that of node `i`, looked for from node `start` on.
@@ -24,7 +33,7 @@ fn other_label(row: &[u8], i: usize, start: usize) -> Option<u8> {
         .find(|label| label != own)
 }
 
-// A label that no node of the row has: one of nets where one is left.
+// A label that no node of the row has; 0 where none of nets is left. The row is judged with that one too, so it need not say that none is.
 fn unused(row: &[u8]) -> u8 {
     (0..BLANK_LABEL)
         .find(|label| !row.contains(label))
@@ -64,73 +73,63 @@ impl Agreement {
     }
 
     // Tries the row with another label at node `i`.
-    fn try_changed(
-        &mut self,
-        trial: &mut SheetTrial,
-        nodes: Option<&[Node]>,
-        i: usize,
-        label: u8,
-    ) -> Result<(), Failure> {
-        self.copy(trial.row)?;
+    fn try_changed(&mut self, rows: &mut RowTrials, i: usize, label: u8) -> Result<(), Failure> {
+        self.copy(rows.trial.row)?;
         if let Some(node) = self.near.get_mut(i) {
             *node = label;
         }
-        try_row(trial, nodes, &self.near)
+        rows.try_row(&self.near)
     }
 
     // Tries the row with a node moved to another net, or to the blanks, if there is another label.
-    fn try_moved(&mut self, trial: &mut SheetTrial, nodes: Option<&[Node]>) -> Result<(), Failure> {
-        let row = trial.row;
-        let i = node_of(row, trial.seed / 3);
-        match other_label(row, i, node_of(row, trial.seed / 5)) {
-            Some(label) => self.try_changed(trial, nodes, i, label),
+    fn try_moved(&mut self, rows: &mut RowTrials) -> Result<(), Failure> {
+        let row = rows.trial.row;
+        let seed = rows.trial.seed;
+        let i = node_of(row, seed / 3);
+        match other_label(row, i, node_of(row, seed / 5)) {
+            Some(label) => self.try_changed(rows, i, label),
             None => Ok(()),
         }
     }
 
     // Tries the row with a node left blank, or given a label if it is blank.
-    fn try_blanked(
-        &mut self,
-        trial: &mut SheetTrial,
-        nodes: Option<&[Node]>,
-    ) -> Result<(), Failure> {
-        let row = trial.row;
-        let i = node_of(row, trial.seed / 7);
-        self.try_changed(trial, nodes, i, blank_or_not(row, i))
+    fn try_blanked(&mut self, rows: &mut RowTrials) -> Result<(), Failure> {
+        let row = rows.trial.row;
+        let i = node_of(row, rows.trial.seed / 7);
+        self.try_changed(rows, i, blank_or_not(row, i))
     }
 
     // Tries the row once its blanks are a net.
-    fn try_filled(
-        &mut self,
-        trial: &mut SheetTrial,
-        nodes: Option<&[Node]>,
-    ) -> Result<(), Failure> {
-        self.copy(trial.row)?;
-        let label = unused(trial.row);
+    fn try_filled(&mut self, rows: &mut RowTrials) -> Result<(), Failure> {
+        self.copy(rows.trial.row)?;
+        let label = unused(rows.trial.row);
         for node in self.near.iter_mut() {
             if *node == BLANK_LABEL {
                 *node = label;
             }
         }
-        try_row(trial, nodes, &self.near)
+        rows.try_row(&self.near)
     }
 
-    // Tries the row and rows near it; on every fourth sheet the row with its blanks joined too, and the row without its last node.
+    // Tries the row and rows near it, where `nodes` are the sheet's if the reader takes it; on every fourth sheet the row with its blanks joined too, and the row
+    // without its last node.
     pub fn try_all(
         &mut self,
         trial: &mut SheetTrial,
         nodes: Option<&[Node]>,
     ) -> Result<(), Failure> {
         let row = trial.row;
-        try_row(trial, nodes, row)?;
-        self.try_moved(trial, nodes)?;
-        self.try_blanked(trial, nodes)?;
-        if trial.seed / 16 % 4 != 2 {
+        let seed = trial.seed;
+        let mut rows = RowTrials { trial, nodes };
+        rows.try_row(row)?;
+        self.try_moved(&mut rows)?;
+        self.try_blanked(&mut rows)?;
+        if seed / 16 % 4 != 2 {
             return Ok(());
         }
-        self.try_filled(trial, nodes)?;
+        self.try_filled(&mut rows)?;
         match row.split_last() {
-            Some((_, others)) => try_row(trial, nodes, others),
+            Some((_, others)) => rows.try_row(others),
             None => Ok(()),
         }
     }

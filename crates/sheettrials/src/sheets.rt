@@ -1,9 +1,12 @@
 // A sheet: what the reader, the agreement test and the drawer say of it, against the second router's judgement.
 use crate::agreement::Agreement;
-use answers::Said;
 use filmtrials::films::{FilmTrials, SheetTrial};
-use secondreader::judge::{Fault, Sheet, judge, node_count, number_nets, read_head, reader_answer};
-use secondrouter::nets::{BLANK_LABEL, Node, numbers_of};
+use rules::{Limit, ReadError};
+use secondreader::judge::{
+    Fault, JudgeError, judge, node_count, number_nets, read_head, reader_answer,
+};
+use secondrouter::nets::{Node, numbers_of};
+use secondrouter::placing::Placing;
 use std::alloc::{AllocError, Global};
 use tallies::failure::{Failure, Part};
 use tallies::patterns::{fill, keeps, part_mut};
@@ -11,29 +14,29 @@ use tallies::patterns::{fill, keeps, part_mut};
 // The most bytes that are lent to the reader.
 const ROW: usize = 640;
 
-// What a sheet with a fault is refused with.
-fn refusal(fault: Fault) -> Said {
-    Said {
-        number: fault.number(),
-        place: fault.place(),
-    }
-}
-
-// What the reader says where it gives back the row of the nodes.
-fn row_back(nodes: &[Node]) -> Said {
-    Said {
-        number: 0,
-        place: nodes.len(),
+// The library's name for a fault. `From` cannot stand here, since both types are of other crates.
+fn refusal(fault: Fault) -> rules::Fault {
+    match fault {
+        Fault::Count => rules::Fault::Head,
+        Fault::Streets => rules::Fault::Tracks,
+        Fault::Length => rules::Fault::Length,
+        Fault::Position(place) => rules::Fault::Position(place),
+        Fault::Upper(place) => rules::Fault::Street(Limit::Upper, place),
+        Fault::Lower(place) => rules::Fault::Street(Limit::Lower, place),
+        Fault::Tracks(place) => rules::Fault::Street(Limit::Sum, place),
+        Fault::Open(place) => rules::Fault::Open(place),
+        Fault::Padding => rules::Fault::Padding,
+        Fault::Nets => rules::Fault::Nets,
     }
 }
 
 // What the reader is to do: give back the row of the nodes, or refuse the sheet.
-type Wanted<'a> = Result<&'a [Node], Said>;
+type Wanted<'a> = Result<&'a [Node], ReadError>;
 
+// Whether a row begins with the labels that the reader gives the nodes.
 fn is_row_of(row: &[u8], nodes: &[Node]) -> bool {
-    row.iter()
-        .zip(nodes.iter())
-        .all(|(label, node)| *label == node.net.unwrap_or(BLANK_LABEL))
+    let labels = nodes.iter().map(|node| node.label());
+    row.iter().copied().take(nodes.len()).eq(labels)
 }
 
 // How many bytes are lent to the reader at the least: the node count of the sheet, where that can be right.
@@ -51,6 +54,7 @@ pub struct SheetTrials {
 }
 
 impl SheetTrials {
+    // A constructor takes the allocator, and can run out of memory, where `Default` does neither.
     pub fn new(alloc: Global) -> Result<SheetTrials, AllocError> {
         Ok(SheetTrials {
             alloc,
@@ -60,7 +64,8 @@ impl SheetTrials {
         })
     }
 
-    // Fails where the reader, lent so many bytes, does not say what is wanted, or leaves another row.
+    // Fails where the reader, lent so many bytes, does not say what is wanted, or leaves another row. The drawer's goes the same course: a trait for both would take the
+    // buffer, who is asked, the count and the row's own test, and be no shorter.
     fn try_call(
         &mut self,
         trial: &mut SheetTrial,
@@ -69,13 +74,11 @@ impl SheetTrials {
     ) -> Result<(), Failure> {
         let back = part_mut(&mut self.back, lent);
         fill(back, trial.seed);
-        let said = answers::Said::from(sheet::reader::read(trial.sheet, back));
-        let (wanted, nodes): (Said, &[Node]) = match wanted {
-            Ok(nodes) => (row_back(nodes), nodes),
-            Err(refusal) => (refusal, &[]),
-        };
-        trial.tally.count_read(wanted);
-        Part::Reader.says(said, wanted)?;
+        let said = sheet::reader::read(trial.sheet, back);
+        let answer = wanted.map(|nodes| nodes.len());
+        let nodes = wanted.unwrap_or(&[]);
+        trial.tally.count_read(answer);
+        Part::Reader.says(said, answer)?;
         Part::Reader.holds(is_row_of(back, nodes))?;
         Part::Reader.holds(keeps(back, nodes.len(), trial.seed))
     }
@@ -86,11 +89,8 @@ impl SheetTrials {
             return Ok(());
         }
         let wanted = match read_head(trial.sheet) {
-            Ok(_) => Said {
-                number: 14,
-                place: 0,
-            },
-            Err(fault) => refusal(fault),
+            Ok(_) => ReadError::RowShort,
+            Err(fault) => ReadError::Unfit(refusal(fault)),
         };
         let short = row_need(trial.sheet).saturating_sub(1);
         let lent = short.saturating_sub(trial.seed % 2);
@@ -114,13 +114,13 @@ impl SheetTrials {
     fn try_legal(
         &mut self,
         trial: &mut SheetTrial,
-        sheet: &Sheet,
+        sheet: &Placing,
         nets: usize,
     ) -> Result<(), Failure> {
         let nodes: &[Node] = &sheet.nodes;
         let wanted = match reader_answer(nodes.len(), nets) {
             Ok(_) => Ok(nodes),
-            Err(fault) => Err(refusal(fault)),
+            Err(fault) => Err(ReadError::Unfit(refusal(fault))),
         };
         self.try_readings(trial, wanted)?;
         self.films.try_legal(trial, sheet, nets)
@@ -128,33 +128,31 @@ impl SheetTrials {
 
     // Tries any sheet.
     pub fn try_sheet(&mut self, trial: &mut SheetTrial) -> Result<(), Failure> {
-        match judge(self.alloc, trial.sheet)? {
+        match judge(self.alloc, trial.sheet) {
             Ok(mut sheet) => {
                 let nets = number_nets(&mut sheet.nodes);
                 self.try_legal(trial, &sheet, nets)
             }
-            Err(fault) => {
-                let wanted = refusal(fault);
-                self.try_readings(trial, Err(wanted))?;
-                self.films.try_refused(trial, wanted)
+            Err(JudgeError::Fault(fault)) => {
+                let fault = refusal(fault);
+                self.try_readings(trial, Err(ReadError::Unfit(fault)))?;
+                self.films.try_refused(trial, fault)
             }
+            Err(JudgeError::Memory(error)) => Err(error.into()),
         }
     }
 
     // Tries the sheet of an accepted row. The second router's judgement has to take it, and to give back the numbers of the row's nets.
     pub fn try_own(&mut self, trial: &mut SheetTrial) -> Result<(), Failure> {
-        let Ok(mut sheet) = judge(self.alloc, trial.sheet)? else {
-            return Part::SecondRouter.holds(false);
+        let mut sheet = match judge(self.alloc, trial.sheet) {
+            Ok(sheet) => sheet,
+            Err(JudgeError::Fault(_)) => return Err(Part::SecondRouter.fails()),
+            Err(JudgeError::Memory(error)) => return Err(error.into()),
         };
         let nets = number_nets(&mut sheet.nodes);
         let numbers = numbers_of(self.alloc, trial.row)?;
-        Part::SecondRouter.holds(
-            numbers.len() == sheet.nodes.len()
-                && numbers
-                    .iter()
-                    .zip(sheet.nodes.iter())
-                    .all(|(number, node)| *number == node.net),
-        )?;
+        let nodes = sheet.nodes.iter().map(|node| node.net);
+        Part::SecondRouter.holds(nodes.eq(numbers.iter().copied()))?;
         self.try_legal(trial, &sheet, nets)
     }
 }

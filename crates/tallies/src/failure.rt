@@ -1,10 +1,11 @@
 // What fails in a trial: the part, and the row or the sheet that is tried.
 use answers::Said;
+use fields::Hex;
 use secondrouter::streets::Streets;
 use std::alloc::AllocError;
 use std::fmt;
 
-// A part of a trial.
+// A part of a trial, with the number that is printed of it.
 #[derive(Clone, Copy)]
 pub enum Part {
     Router = 1,
@@ -26,10 +27,18 @@ pub struct Answers {
     pub wanted: Said,
 }
 
-// Why a trial stops: a part fails, by another answer or otherwise, or memory runs out.
+// What a trial finds: a part that fails, by another answer than is wanted or otherwise.
+#[derive(Clone, Copy)]
+pub struct Finding {
+    pub part: Part,
+    pub answers: Option<Answers>,
+}
+
+// Why a trial stops: a part fails, or memory runs out. Where another error becomes this one, `?` could not say which part fails, so its arm of `Memory` is written
+// out.
 #[derive(Drop)]
 pub enum Failure {
-    Found(Part, Option<Answers>),
+    Found(Finding),
     Memory(AllocError),
 }
 
@@ -40,20 +49,31 @@ impl From<AllocError> for Failure {
 }
 
 impl Part {
-    // Fails where the part does not say what is wanted.
-    pub fn says(self, said: Said, wanted: Said) -> Result<(), Failure> {
-        if said.number == wanted.number && said.place == wanted.place {
+    // Fails where the part does not give the answer that is wanted.
+    pub fn says<T: Copy + PartialEq + Into<Said>>(self, said: T, wanted: T) -> Result<(), Failure> {
+        if said == wanted {
             return Ok(());
         }
-        Err(Failure::Found(self, Some(Answers { said, wanted })))
+        Err(Failure::Found(Finding {
+            part: self,
+            answers: Some(Answers {
+                said: said.into(),
+                wanted: wanted.into(),
+            }),
+        }))
     }
 
     // Fails where the part's test does not hold.
     pub fn holds(self, test: bool) -> Result<(), Failure> {
-        if test {
-            return Ok(());
-        }
-        Err(Failure::Found(self, None))
+        if test { Ok(()) } else { Err(self.fails()) }
+    }
+
+    // The failure of the part by something else than an answer.
+    pub fn fails(self) -> Failure {
+        Failure::Found(Finding {
+            part: self,
+            answers: None,
+        })
     }
 }
 
@@ -67,24 +87,7 @@ impl fmt::Display for Part {
 impl fmt::Display for Answers {
     fn fmt<W: fmt::Write>(&self, f: &mut fmt::Formatter<W>) -> fmt::Result {
         let Answers { said, wanted } = self;
-        write!(
-            f,
-            "said and wanted {} at {}, {} at {}, ",
-            said.number, said.place, wanted.number, wanted.place
-        )
-    }
-}
-
-// Bytes in hexadecimal.
-#[derive(Drop)]
-struct Hex<'a>(&'a [u8]);
-
-impl fmt::Display for Hex<'_> {
-    fn fmt<W: fmt::Write>(&self, f: &mut fmt::Formatter<W>) -> fmt::Result {
-        for byte in self.0 {
-            write!(f, "{byte:02x}")?;
-        }
-        Ok(())
+        write!(f, "said and wanted {said}, {wanted}, ")
     }
 }
 
@@ -99,13 +102,12 @@ pub enum Subject<'a> {
 #[derive(Drop)]
 pub struct Disagreement<'a> {
     pub subject: Subject<'a>,
-    pub part: Part,
-    pub answers: Option<Answers>,
+    pub finding: Finding,
 }
 
 impl Disagreement<'_> {
     fn write_head<W: fmt::Write>(&self, f: &mut fmt::Formatter<W>) -> fmt::Result {
-        let part = self.part;
+        let part = self.finding.part;
         match self.subject {
             Subject::Row { streets, .. } => {
                 write!(
@@ -132,7 +134,7 @@ impl Disagreement<'_> {
 impl fmt::Display for Disagreement<'_> {
     fn fmt<W: fmt::Write>(&self, f: &mut fmt::Formatter<W>) -> fmt::Result {
         self.write_head(f)?;
-        if let Some(answers) = self.answers {
+        if let Some(answers) = self.finding.answers {
             write!(f, "{answers}")?;
         }
         self.write_bytes(f)

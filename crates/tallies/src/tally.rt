@@ -1,9 +1,11 @@
 // The counts of all trials, and their printing.
+use crate::count::Count;
 use crate::failure::{Disagreement, Failure, Subject};
 use crate::source::Source;
 use answers::Said;
+use rules::{Drawing, Reading, RouteError, Routing};
 use secondrouter::streets::Streets;
-use std::io;
+use std::{io, mem};
 
 // The rows of the source that is tried, and the router's right answers to them.
 #[derive(Default, Clone, Copy)]
@@ -14,53 +16,47 @@ struct Outcomes {
     late: u64,
 }
 
+// How often the reader and the drawer said a number.
+#[derive(Default, Clone, Copy)]
+struct Times {
+    read: u64,
+    drawn: u64,
+}
+
+// The counts are arrays, since a map could run out of memory, and counting does not fail.
 #[derive(Default, Drop)]
 pub struct Tally {
     source: Outcomes,
-    rows: u64,
-    sheets: u64,
-    lone_rows: u64,
-    lone_found: u64,
-    early: u64,
-    sheets_read: u64,
-    agreed: u64,
-    unlike: u64,
-    short_films: u64,
-    films: u64,
-    records: u64,
-    points: u64,
-    disagreements: u64,
-    // A count for each pair of streets.
+    // By `Count`.
+    counts: [u64; 13],
+    // By pair of streets: how many random rows.
     pairs: [u64; 16],
-    // A count for each number that the reader says, and that the drawer says.
-    read: [u64; 32],
-    drawn: [u64; 32],
+    // By number of an answer.
+    numbers: [Times; 32],
 }
 
 // How many disagreements are printed.
-const SHOWN: u64 = 8;
+const SHOWN: usize = 8;
 
-fn add(count: &mut u64, more: u64) {
-    *count = count.saturating_add(more);
-}
-
-fn add_at(counts: &mut [u64], i: usize) {
-    if let Some(count) = counts.get_mut(i) {
-        add(count, 1);
-    }
+fn add(count: &mut u64, more: usize) {
+    *count = count.saturating_add(more as u64);
 }
 
 impl Tally {
-    // The number of this row, which also seeds its patterns and its choices.
-    pub fn next_row(&mut self) -> usize {
-        add(&mut self.rows, 1);
-        self.rows as usize
+    // How often a thing was counted.
+    fn of(&self, what: Count) -> u64 {
+        self.counts[what as usize]
     }
 
-    // The number of this sheet, which also seeds its patterns and its choices.
-    pub fn next_sheet(&mut self) -> usize {
-        add(&mut self.sheets, 1);
-        self.sheets as usize
+    // Counts so many more of a thing.
+    fn count_more(&mut self, what: Count, more: usize) {
+        add(&mut self.counts[what as usize], more);
+    }
+
+    // Counts a thing, and gives its number: that of a row or a sheet also seeds its patterns and its choices.
+    pub fn count(&mut self, what: Count) -> usize {
+        self.count_more(what, 1);
+        self.of(what) as usize
     }
 
     // Counts a row of the source that is tried.
@@ -70,20 +66,17 @@ impl Tally {
 
     // Counts a random row under its pair of streets.
     pub fn count_pair(&mut self, streets: Streets) {
-        let pair = usize::from(streets.upper) * 4 + usize::from(streets.lower);
-        add_at(&mut self.pairs, pair);
-    }
-
-    pub fn count_lone_row(&mut self) {
-        add(&mut self.lone_rows, 1);
+        if let Some(count) = self.pairs.get_mut(streets.number()) {
+            add(count, 1);
+        }
     }
 
     // Counts a right answer of the router to a row of `nodes` nodes.
-    pub fn count_routed(&mut self, answer: Said, nodes: usize) {
-        match answer.number {
-            0 => add(&mut self.source.accepted, 1),
-            6 => self.count_stuck(answer.place, nodes),
-            _ => add(&mut self.lone_found, 1),
+    pub fn count_routed(&mut self, answer: Routing, nodes: usize) {
+        match answer {
+            Ok(_) => add(&mut self.source.accepted, 1),
+            Err(RouteError::Stuck(place)) => self.count_stuck(place, nodes),
+            Err(_) => self.count_more(Count::LoneFound, 1),
         }
     }
 
@@ -94,42 +87,43 @@ impl Tally {
         }
     }
 
-    // Counts a call that one of the router's first tests refuses.
-    pub fn count_early(&mut self) {
-        add(&mut self.early, 1);
+    // The counts of an answer's number.
+    fn times(&mut self, answer: Said) -> Option<&mut Times> {
+        self.numbers.get_mut(answer.number as usize)
     }
 
     // Counts a right answer of the reader under its number.
-    pub fn count_read(&mut self, answer: Said) {
-        add_at(&mut self.read, answer.number as usize);
-        if answer.number == 0 {
-            add(&mut self.sheets_read, 1);
+    pub fn count_read(&mut self, answer: Reading) {
+        if let Some(times) = self.times(answer.into()) {
+            add(&mut times.read, 1);
+        }
+        if answer.is_ok() {
+            self.count_more(Count::SheetsRead, 1);
         }
     }
 
     // Counts a row that agrees with a sheet, or one that does not.
     pub fn count_agreement(&mut self, agrees: bool) {
-        if agrees {
-            add(&mut self.agreed, 1);
+        let what = if agrees {
+            Count::Agreements
         } else {
-            add(&mut self.unlike, 1);
+            Count::Unlike
+        };
+        self.count_more(what, 1);
+    }
+
+    // Counts a right answer of the drawer under its number. Beside `count_read`: the field differs, and a function of both would take it as a closure.
+    pub fn count_drawn(&mut self, answer: Drawing) {
+        if let Some(times) = self.times(answer.into()) {
+            add(&mut times.drawn, 1);
         }
-    }
-
-    // Counts a right answer of the drawer under its number.
-    pub fn count_drawn(&mut self, answer: Said) {
-        add_at(&mut self.drawn, answer.number as usize);
-    }
-
-    pub fn count_short_film(&mut self) {
-        add(&mut self.short_films, 1);
     }
 
     // Counts a film and what it has.
     pub fn count_film(&mut self, records: usize, points: usize) {
-        add(&mut self.films, 1);
-        add(&mut self.records, records as u64);
-        add(&mut self.points, points as u64);
+        self.count_more(Count::Films, 1);
+        self.count_more(Count::Records, records);
+        self.count_more(Count::Points, points);
     }
 
     // Counts a trial that fails, and prints the first few.
@@ -142,20 +136,12 @@ impl Tally {
         match outcome {
             Ok(()) => Ok(()),
             Err(Failure::Memory(error)) => Err(error.into()),
-            Err(Failure::Found(part, answers)) => self.disagree(
-                rt,
-                Disagreement {
-                    subject,
-                    part,
-                    answers,
-                },
-            ),
+            Err(Failure::Found(finding)) => self.disagree(rt, Disagreement { subject, finding }),
         }
     }
 
     fn disagree(&mut self, rt: &impl Print, disagreement: Disagreement) -> io::Result<()> {
-        add(&mut self.disagreements, 1);
-        if self.disagreements <= SHOWN {
+        if self.count(Count::Disagreements) <= SHOWN {
             println!(rt; "{disagreement}")?;
         }
         Ok(())
@@ -168,8 +154,7 @@ impl Tally {
             accepted,
             stuck,
             late,
-        } = self.source;
-        self.source = Outcomes::default();
+        } = mem::take(&mut self.source);
         println!(rt; "{rows} {source}")?;
         println!(rt; "{accepted} accepted")?;
         println!(rt; "{stuck} refused with 6")?;
@@ -183,21 +168,17 @@ impl Tally {
         println!(rt; "{most} random rows under the most tried pair of streets")
     }
 
-    fn report_early(&self, rt: &impl Print) -> io::Result<()> {
-        println!(rt; "{} rows with a lone label", self.lone_rows)?;
-        println!(rt; "{} refused with 3", self.lone_found)?;
-        println!(rt; "{} calls refused with 2, 4 or 5", self.early)
-    }
-
-    fn report_sheets(&self, rt: &impl Print) -> io::Result<()> {
-        println!(rt; "{} sheets read back", self.sheets_read)?;
-        println!(rt; "{} agreements", self.agreed)?;
-        println!(rt; "{} rows do not agree", self.unlike)
+    // Prints how often each of some things was counted.
+    fn report_counts(&self, rt: &impl Print, counted: &[Count]) -> io::Result<()> {
+        for what in counted {
+            println!(rt; "{} {what}", self.of(*what))?;
+        }
+        Ok(())
     }
 
     // Prints how often the reader and the drawer said each number that one of them said.
     fn report_numbers(&self, rt: &impl Print) -> io::Result<()> {
-        for (number, (read, drawn)) in self.read.iter().zip(self.drawn.iter()).enumerate() {
+        for (number, Times { read, drawn }) in self.numbers.iter().enumerate() {
             if *read != 0 || *drawn != 0 {
                 println!(rt; "{number} said {read} times by the reader, {drawn} by the drawer")?;
             }
@@ -205,21 +186,33 @@ impl Tally {
         Ok(())
     }
 
-    fn report_films(&self, rt: &impl Print) -> io::Result<()> {
-        println!(rt; "{} films a byte short refused with 21", self.short_films)?;
-        println!(rt; "{} films", self.films)?;
-        println!(rt; "{} records", self.records)?;
-        println!(rt; "{} points", self.points)
-    }
-
     // Prints the counts over all sources, and last how many rows and sheets disagree.
     pub fn report(&self, rt: &impl Print) -> io::Result<()> {
         self.report_pairs(rt)?;
-        self.report_early(rt)?;
-        self.report_sheets(rt)?;
+        self.report_counts(
+            rt,
+            &[
+                Count::LoneRows,
+                Count::LoneFound,
+                Count::EarlyCalls,
+                Count::SheetsRead,
+                Count::Agreements,
+                Count::Unlike,
+            ],
+        )?;
         self.report_numbers(rt)?;
-        self.report_films(rt)?;
-        println!(rt; "{} sheets by lot", self.sheets)?;
-        println!(rt; "{} rows, {} disagreements", self.rows, self.disagreements)
+        self.report_counts(
+            rt,
+            &[
+                Count::ShortFilms,
+                Count::Films,
+                Count::Records,
+                Count::Points,
+                Count::Sheets,
+            ],
+        )?;
+        let rows = self.of(Count::Rows);
+        let disagreements = self.of(Count::Disagreements);
+        println!(rt; "{rows} rows, {disagreements} disagreements")
     }
 }
