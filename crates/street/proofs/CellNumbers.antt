@@ -1,5 +1,5 @@
--- The number of labels that are bytes: its bytes are the cells of an order of them, and a label is put in or cut out by dividing and multiplying by
--- the unit of its place.
+-- The number of labels that are bytes: its bytes are the cells of an order of them, and a label is read, put in or cut out by dividing and multiplying
+-- by the unit of its place.
 use mathlib.Core.Path.{◌≡◌, refl, sym, ap, ap₂, ◌∙◌}
 use mathlib.Core.List.{List, [], ◌∷◌, ◌++◌}
 use Prim.Native.Nat.{ℕ, zero, suc, ◌+◌, ◌-◌, ◌*◌, ◌/◌, ◌%◌, ◌^◌, ◌≤◌, ◌<◌}
@@ -8,11 +8,11 @@ use native.Mathlib.Omega.{arith}
 use lib.Arith.{digits_div, digits_mod}
 use lib.ListN.{length, get_or, take, drop, replicate, take-append-drop}
 use lib.Pow.{pow-add, pow_mono}
-use lib.Seq.{length-take-le}
+use lib.Seq.{length-take-le, drop-cons}
 use Rattle.std.specs.Int.{w64, to_le_bytes, from_le_bytes}
 use Rattle.rules.specs.Basic.{tabulate, put, cut}
 use Rattle.rules.specs.Bits.{Below, nil, cons}
-use Rattle.rules.proofs.Fields.{below-append, below-drop, below-from, below-take}
+use Rattle.rules.proofs.Fields.{below-append, below_at, below-drop, below-from, below-take}
 use Rattle.rules.proofs.Lists.{length-put, length_cut}
 use Rattle.street.proofs.Cells.{Cells, eight-cells, spare}
 use Rattle.street.specs.Order.{capacity, cells_with}
@@ -163,6 +163,12 @@ module _ {l : List ℕ} {o : ℕ} (n : Numbered l o) (k : ℕ) {u : ℕ} (one : 
     cells-put room e = e ∙ bytes_with put-bytes (omega (arith, length-put k x l)) (put-number x)
 
 module _ {l : List ℕ} {o : ℕ} (n : Numbered l o) (k : ℕ) {u : ℕ} (one : u ≡ unit k) (h : k < length l) where
+  pub get_or-number : o / u % 256 ≡ get_or l k 0
+  unfolding number
+  get_or-number =
+      let first : (get_or l k 0 + 256 * number (drop (suc k) l)) % 256 ≡ get_or l k 0 = omega (arith, below_at n.bytes k 0 h) in
+      ap (λ (m : ℕ). m % 256) (high n k one (omega arith) ∙ ap number (drop-cons l k 0 h)) ∙ first
+
   cut-number : o % u + o / 256 / u * u ≡ number (cut k l)
   cut-number =
       let next : o / 256 / u ≡ number (drop (suc k) l) = ap (λ (v : ℕ). o / 256 / v) one ∙ above o k ∙ high n (suc k) refl h in

@@ -7,12 +7,6 @@ use Prim.Native.Nat.{ℕ, suc, ◌+◌, ◌-◌, ◌≤◌, ◌<◌}
 use native.Mathlib.Nat.{le_of_suc-le-suc}
 use native.Mathlib.Omega.{arith}
 use lib.Dec.{eqb}
-use borrow.Author.Tests.{eq-eqb, ne_eqb}
-use Rattle.std.specs.List.{AllWithin, HoldsAt}
-use Rattle.std.specs.Option.{MatchOption, unwrap_or}
-use Rattle.std.specs.Prelude.{Option, None, Some}
-use Rattle.std.proofs.lemmas.Iterator.{index_from_first}
-use mathlib.Core.Logic.{◌≢◌}
 use lib.ListN.{length, get_or, take, replicate, length-append, length-replicate}
 use lib.Seq.{take_at, length-take-le}
 use Rattle.rules.specs.Basic.{pick, tabulate, put, cut}
@@ -81,25 +75,32 @@ before-append x (y ∷ l) r h = go (eqb y x) (before-append x l r) h
     go true f h = refl
     go false f h = ap suc (f (le_of_suc-le-suc h))
 
--- a search of the cells from the first on counts those before a label
-first_cell : (x : ℕ) (nets : List ℕ) (r : Option ℕ)
-    → MatchOption r (AllWithin (λ y. y ≢ x) nets 0 (length nets)) (λ i. (i < length nets) × HoldsAt (λ y. y ≡ x) nets i × AllWithin (λ y. y ≢ x) nets 0 i)
-    → before x nets ≡ unwrap_or r (length nets)
-unfolding before pick
-first_cell x nets r h =
-    index_from_first (before x) (λ y. y ≡ x) (λ y. y ≢ x) refl (λ y l e. rw (eq-eqb y x e)) (λ y l d. rw (ne_eqb y x d) (omega arith)) nets r h
+-- the first of six tests that passes, where one does
+first_of : (a b c d e f : Bool) (m n : ℕ) → n ≡ pick a 0 (suc (pick b 0 (suc (pick c 0 (suc (pick d 0 (suc (pick e 0 (suc (pick f 0 (suc m))))))))))) → n < capacity
+    → pick a 0 (pick b 1 (pick c 2 (pick d 3 (pick e 4 5)))) ≡ n
+unfolding pick
+first_of true b c d e f m n p h = sym p
+first_of false true c d e f m n p h = sym p
+first_of false false true d e f m n p h = sym p
+first_of false false false true e f m n p h = sym p
+first_of false false false false true f m n p h = sym p
+first_of false false false false false true m n p h = sym p
+first_of false false false false false false m n p h = absurd (omega arith)
 
 module _ {l nets : List ℕ} {count : ℕ} (c : Cells l nets count) (x : ℕ) (there : before x l < length l) where
+  abbrev holds : ℕ → Bool
+  holds i = eqb (get_or nets i 0) x
+
   -- an open label stands where its first cell is
   own : before x nets ≡ before x l
   own = ap (before x) (spare c) ∙ before-append x l (replicate (cells - length l) 0) there
 
-  module _ (r : Option ℕ)
-      (h : MatchOption r (AllWithin (λ y. y ≢ x) nets 0 (length nets)) (λ i. (i < length nets) × HoldsAt (λ y. y ≡ x) nets i × AllWithin (λ y. y ≢ x) nets 0 i)) where
-    pub found : {k : ℕ} → r ≡ Some k → k ≡ before x l
-    found {k} e = let w : before x nets ≡ k = first_cell x nets r h ∙ ap (λ (o : Option ℕ). unwrap_or o (length nets)) e in sym w ∙ own
-
-    pub not-missing : r ≡ None → ⊥
-    not-missing e =
-        let w : before x nets ≡ length nets = first_cell x nets r h ∙ ap (λ (o : Option ℕ). unwrap_or o (length nets)) e in
-        omega (arith, own, c.sound.long, counted c, c.sound.few)
+  pub found : {p q r s t : ℕ}
+      → p ≡ pick (holds 4) 4 5 → q ≡ pick (holds 3) 3 p → r ≡ pick (holds 2) 2 q → s ≡ pick (holds 1) 1 r → t ≡ pick (holds 0) 0 s
+      → t ≡ before x l
+  unfolding before tabulate
+  found {t = t} h₄ h₃ h₂ h₁ h₀ =
+      let asked : t ≡ pick (holds 0) 0 (pick (holds 1) 1 (pick (holds 2) 2 (pick (holds 3) 3 (pick (holds 4) 4 5)))) = cc in
+      let cells = ap (before x) (eight-cells nets c.sound.long) in
+      let first = first_of (holds 0) (holds 1) (holds 2) (holds 3) (holds 4) (holds 5) (pick (holds 6) 0 (suc (pick (holds 7) 0 1))) (before x nets) (sym cells) (omega (arith, own, few c)) in
+      asked ∙ first ∙ own

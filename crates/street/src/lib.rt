@@ -58,7 +58,14 @@ impl Order {
         }
     }
 
-    // The order with the label x behind k others. By its number, with no loop and no branch, here and in `remove`: with `copy_within` routing takes 225
+    // The number of labels.
+    pub fn len(self) -> usize
+        ensures { result ≡ length self }
+    {
+        self.count
+    }
+
+    // The order with the label x behind k others. By its number, with no loop and no branch, here, in `remove` and in `label`: with `copy_within` routing takes 225
     // instructions a node and reading 71, over the limits of 210 and 60.
     pub fn insert(self, k: usize, x: u8) -> Order
         requires { (length self < capacity) × (k ≤ length self) }
@@ -73,15 +80,16 @@ impl Order {
         }
     }
 
-    // How many labels stand before the first x, which is open: no free cell stands before it.
+    // How many labels stand before the first x, which is open: it is in the last of the six cells that a label can have, where it is in none before.
+    // All tests are made, whichever passes, so that none needs a branch.
     pub fn find(self, x: u8) -> usize
         requires { before x self < length self }
         ensures { result ≡ before x self }
     {
-        let Some(k) = self.nets.iter().position(|&label| label == x) else {
-            unreachable!()
-        };
-        k
+        let nets = self.nets;
+        let fifth = nearer(nets[4] == x, 4, 5);
+        let third = nearer(nets[2] == x, 2, nearer(nets[3] == x, 3, fifth));
+        nearer(nets[0] == x, 0, nearer(nets[1] == x, 1, third))
     }
 
     // The order without the label behind k others.
@@ -103,8 +111,7 @@ impl Order {
         requires { k < length self }
         ensures { result ≡ get_or self k 0 }
     {
-        let nets = &self.nets;
-        nets[k]
+        (self.number() / power(8 * k) % 256) as u8
     }
 
     // The labels as one number, the first lowest.
@@ -121,6 +128,14 @@ fn power(n: usize) -> u64
     ensures { result ≡ 2 ^ n }
 {
     1u64 << n
+}
+
+// Place i, where the label is there, and else the later place p.
+#[tactic(auto, unfolding(rules::specs::Basic::pick))]
+fn nearer(here: bool, i: usize, p: usize) -> usize
+    ensures { result ≡ pick here i p }
+{
+    if here { i } else { p }
 }
 
 // Which of the three limits a wire with `above` wires over it, of b at the node, breaks, if any. Any two numbers of tracks serve, where `Streets` has at most three in each.

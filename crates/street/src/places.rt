@@ -1,13 +1,13 @@
 // The places that the limits allow at a node, for every kind and every number of open nets: sixteen bits each, of which bit a is set where a wires may be above.
 ghost use Rattle.std.specs.Prelude.{◌≡◌, suc, ◌+◌, ◌≤◌, ◌<◌};
 ghost use Rattle.rules.specs.Limits.{fits_at, counted};
-ghost use Rattle.street.specs.Places.{among, Places};
+ghost use Rattle.street.specs.Places.{among, marked, places_at, Places};
 
 use crate::power;
 use rules::{Kind, Streets};
 
 // The numbers of open nets that a table of places has a cell for: from 0 to 15.
-const COUNTS: usize = 16;
+pub const COUNTS: usize = 16;
 
 // What two streets allow: cell b of a kind's row is that of the nodes before which b nets are open.
 #[derive(Clone, Copy)]
@@ -44,9 +44,24 @@ impl LegalPlaces {
         requires { (above < 16) × (b < 16) }
         ensures { result ≡ fits_at kind self.now.streets.upper self.now.streets.lower (suc above) (counted kind b) }
     {
-        let row = &self.rows[kind as usize];
-        (row[b] >> above) % 2 == 1
+        is_legal(&self.rows, kind, above, b)
     }
+
+    // The table, for whoever keeps it and asks it by `is_legal`.
+    pub fn rows(&self) -> &[[u16; COUNTS]; 4]
+        ensures { Places self.now.streets.upper self.now.streets.lower result.now }
+    {
+        &self.rows
+    }
+}
+
+// Whether a table of places, of any streets, has one with so many wires above a node of this kind, before which b nets are open. It has a row for each kind.
+pub fn is_legal(rows: &[[u16; COUNTS]; 4], kind: Kind, above: u8, b: usize) -> bool
+    requires { (above < 16) × (b < 16) }
+    ensures { result ≡ marked (places_at rows.now kind b) above }
+{
+    let row = &rows[kind as usize];
+    (row[b] >> above) % 2 == 1
 }
 
 // The places among b wires: at most Ku above, and at most Kl below. Ku and Kl come as the numbers that `new` counts by, with the bound of Ku.

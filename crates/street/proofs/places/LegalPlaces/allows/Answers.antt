@@ -1,21 +1,6 @@
--- `street::places::LegalPlaces::allows` meets its contract: the code's test of a bit is the definition's. Assumes nothing.
-use mathlib.Core.Path.{◌≡◌, refl}
-use Rattle.rules.specs.declared.Kind.{Kind}
-use Rattle.rules.specs.declared.Kind.TheVariants.{B, M, E, N}
-use Rattle.rules.specs.contracts.Kind.{the_type}
-use Rattle.rules.specs.Sheet.{code}
-use Rattle.street.specs.Places.{marked}
+-- `street::places::LegalPlaces::allows` meets its contract: the table's cells are what its type says. Assumes nothing.
+use mathlib.Core.Path.{◌∙◌}
 use Rattle.street.proofs.places.LegalPlaces.allows.Goals as goal
-use denote.Enum.Declared.{tag_of}
-
--- the kinds stand in the order of their kind fields
-tag-code : (k : Kind) → tag_of the_type k ≡ code k
-unfolding code
-tag-code B = refl
-tag-code M = refl
-tag-code E = refl
-tag-code N = refl
 
 pub returns : goal.returns
-unfolding marked
-returns c = rw (tag-code c.args.kind) (c.args.self.now.places.places c.args.kind c.args.above c.args.b c.requires.1)
+returns c = c.is_legal.ensures ∙ c.args.self.now.places.places c.args.kind c.args.above c.args.b c.requires.1
