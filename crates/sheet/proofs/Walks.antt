@@ -26,8 +26,28 @@ use Rattle.sheet.proofs.Heads.{headed}
 use Rattle.sheet.proofs.Readings.{headless}
 use Rattle.sheet.proofs.Scans.{entries_from}
 
+-- a placing that meets the limits meets those of wider streets
+legal-widest : {ku kl b : ℕ} {es : List Entry} → ku ≤ 3 → kl ≤ 3 → Legal ku kl b es → Legal 3 3 b es
+legal-widest u l done = done
+legal-widest {ku} {kl} u l (then {b} {f} {a} {es} h r) =
+    then {b = b} {f = f} {a = a} {es = es}
+    (record { low = h.low; high = h.high; upper = omega (arith, h.upper); lower = omega (arith, h.lower); sum = omega (arith, h.sum) })
+    (legal-widest u l r)
+
 pub faultless-legal : {ku kl : ℕ} {fs : List ℕ} → Faultless ku kl fs → Legal ku kl 0 (entries_in fs)
 faultless-legal {ku} {kl} {fs} f = scan-legal ku kl 1 0 (entries_in fs) f.clear f.closed
+
+-- what has no fault under some track counts has none under the most that there are
+pub faultless-widest : {ku kl : ℕ} {fs : List ℕ} → Faultless ku kl fs → Faultless 3 3 fs
+faultless-widest {ku} {kl} {fs} f =
+    let l = legal-widest f.upper f.lower (faultless-legal f) in
+    record {
+      upper = omega arith;
+      lower = omega arith;
+      few = f.few;
+      clear = legal-scan 3 3 1 l;
+      closed = legal-open 3 3 l;
+    }
 
 -- the first bytes are the fields of all nodes of a sheet without a fault
 pub faultless : (s : List ℕ) {fields : List ℕ} → judge s ≡ none → Unpacked s fields → Faultless (upper_of s) (lower_of s) (take (count_of s) fields)

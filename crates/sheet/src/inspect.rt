@@ -1,4 +1,4 @@
-// The judgement of a sheet, 11 to 13, 16 to 19, 30 and 31: what reader, agreement test and drawer ask of it.
+// The judgement of a sheet, 11 to 13, 16 to 19, 30 and 31: what reader, agreement test and drawer ask of it; and 23, of `nodes`, which the drawer does not ask.
 ghost use Rattle.std.specs.Prelude.{◌≡◌, suc, ◌+◌, ◌≤◌, ◌<◌, length};
 ghost use Rattle.std.proofs.Math.Option.{none, some};
 ghost use Rattle.rules.specs.Basic.{or_else};
@@ -10,6 +10,7 @@ ghost use Rattle.sheet.specs.Told.{told, passed};
 ghost use Rattle.rules.specs.Limits.{counted, last, limits_at};
 
 use crate::layout::{above_of, count_of, kind_of, padding_of, streets_of, unpack, upper_of};
+pub use crate::nodes::crowded;
 use bits::sheet_size;
 use rules::{Fault, Kind, Limit, Streets};
 use street::places::LegalPlaces;

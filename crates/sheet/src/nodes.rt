@@ -1,5 +1,5 @@
 // The nodes of a sheet without a fault, and 23, which the drawer does not ask.
-ghost use Rattle.std.specs.Prelude.{◌≡◌, ltb};
+ghost use Rattle.std.specs.Prelude.{◌≡◌, ℕ, ltb};
 ghost use Rattle.std.proofs.Math.Option.{none};
 ghost use Rattle.rules.specs.Sheet.{upper_of, entries_of, begun_by};
 ghost use Rattle.rules.specs.Judgement.{judge};
@@ -29,15 +29,22 @@ impl<'a> Nodes<'a> {
         }
     }
 
-    // 23: whether they have more nets than there are labels for them. A net has two nodes or more, so that 256 nets take all of 512 nodes, and each of these
-    // begins a net or ends one.
+    // 23: whether they have more nets than there are labels for them.
     pub fn crowded(self) -> bool
         ensures { result ≡ ltb 255 (begun_by 0 (entries_in self.entry.fields.now)) }
     {
-        512 <= self.fields.len()
-            && self
-                .fields
-                .iter()
-                .all(|&node| matches!(kind_of(node), Kind::B | Kind::E))
+        crowded(self.fields)
     }
+}
+
+// 23, of fields that have no fault under some track counts, and so none under 3 and 3 (`faultless-widest`). A net has two nodes or more, so that 256 nets take
+// all of 512 nodes, and each of these begins a net or ends one.
+pub fn crowded(fields: &[u8]) -> bool
+    requires { (ku : ℕ) × (kl : ℕ) × Faultless ku kl fields.now }
+    ensures { result ≡ ltb 255 (begun_by 0 (entries_in fields.now)) }
+{
+    512 <= fields.len()
+        && fields
+            .iter()
+            .all(|&node| matches!(kind_of(node), Kind::B | Kind::E))
 }

@@ -2,11 +2,12 @@
 ghost use Rattle.std.specs.Prelude.{◌≡◌, ◌≤◌, length};
 ghost use Rattle.rules.specs.Answers.{written};
 ghost use Rattle.sheet.specs.Fields.{entry_in, row_in};
+ghost use Rattle.sheet.specs.Told.{kind_at};
 ghost use Rattle.sheet.specs.Walk.{Ready, label_on, after};
 ghost use Rattle.sheet.specs.GivenBack.{GivenBack};
 
 use crate::inspect::{inspect_body, inspect_head};
-use crate::layout::{above_of, count_of, kind_of};
+use crate::layout::{above_of, count_of};
 use crate::nodes::Nodes;
 use rules::{BLANK, Fault, Kind, ReadError, Reading};
 use street::Order;
@@ -63,7 +64,7 @@ impl Walk {
         ensures walk { self.new ≡ after self.old (entry_in fields) }
     {
         let above = above_of(fields) as usize;
-        match kind_of(fields) {
+        match kind_by_field(fields) {
             Kind::B => {
                 let label = self.begun as u8;
                 self.order = self.order.insert(above, label);
@@ -78,5 +79,19 @@ impl Walk {
             }
             Kind::N => BLANK,
         }
+    }
+}
+
+// The kind of a node with these fields, which `kind_of` has from a table. The walk matches on it, and a match on what a table gives is a jump through another table at each
+// node, where this is a comparison or two.
+#[tactic(auto, unfolding(crate::specs::Told::kind_at, crate::specs::Fields::entry_in, rules::specs::Sheet::kind_in))]
+fn kind_by_field(fields: u8) -> Kind
+    ensures { result ≡ kind_at (entry_in fields) }
+{
+    match fields / 16 {
+        0 => Kind::B,
+        1 => Kind::M,
+        2 => Kind::E,
+        _ => Kind::N,
     }
 }
