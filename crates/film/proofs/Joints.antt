@@ -14,7 +14,7 @@ use Rattle.rules.specs.Judgement.{left}
 use Rattle.rules.specs.Film.{axis, height_at, across, upright, rec_bits, Wire, ran, wall, opened, closed, marks}
 use Rattle.rules.proofs.Lists.{length-put, length_cut, get_or-put}
 use Rattle.slots.specs.Stamps.{stamp}
-use Rattle.film.specs.declared.moves.Pen.{Pen}
+use Rattle.film.specs.declared.moves.Plotter.{Plotter}
 use Rattle.film.specs.declared.node.Node.{Node}
 use Rattle.film.specs.Stamps.{laid}
 use Rattle.film.specs.Wires.{missing, wire_at}
@@ -38,9 +38,9 @@ end-drawn film f₁ f₂ d d' x {v} {w} e n p q =
 
 -- ---- a node
 
-module _ (n : Node) (x : ℕ) (p : Pen) (j : Joinable p n x) where
+module _ (n : Node) (x : ℕ) (p : Plotter) (j : Joinable p.pen n x) where
   -- at a B: room for a wire with a level and a number
-  pub begins-few : n.kind ≡ B → (length p.wires < 6) × (n.above ≤ length p.wires) × (p.begun < 256)
+  pub begins-few : n.kind ≡ B → (length p.pen.wires < 6) × (n.above ≤ length p.pen.wires) × (p.pen.begun < 256)
   unfolding last counted begun
   begins-few e =
       let stands = rw e at j.stands in
@@ -52,41 +52,41 @@ module _ (n : Node) (x : ℕ) (p : Pen) (j : Joinable p n x) where
   unfolding last
   begins-near e = let stands = rw e at j.stands in let deep = rw e at j.fitting.deep in omega arith
 
-  pub goes-on-open : n.kind ≡ M → Open p n.above x
+  pub goes-on-open : n.kind ≡ M → Open p.pen n.above x
   unfolding last counted
   goes-on-open e = record { stands = rw e at j.stands; column = j.column; room = j.room }
 
-  pub ends_open : n.kind ≡ E → Open p n.above x
+  pub ends_open : n.kind ≡ E → Open p.pen n.above x
   unfolding last counted
   ends_open e = record { stands = rw e at j.stands; column = j.column; room = j.room }
 
   abbrev fresh : Wire
-  fresh = record { net = p.begun; height = height_at n.upper (suc n.above); since = x }
+  fresh = record { net = p.pen.begun; height = height_at n.upper (suc n.above); since = x }
 
   -- what stands in a list is the same whatever stands past its end
-  same_wire : n.above < length p.wires → wire_at p.wires n.above ≡ get_or p.wires n.above (record { net = p.begun; height = axis; since = x })
-  same_wire h = get_or_default p.wires n.above missing (record { net = p.begun; height = axis; since = x }) h
+  same_wire : n.above < length p.pen.wires → wire_at p.pen.wires n.above ≡ get_or p.pen.wires n.above (record { net = p.pen.begun; height = axis; since = x })
+  same_wire h = get_or_default p.pen.wires n.above missing (record { net = p.pen.begun; height = axis; since = x }) h
 
-  module _ (r : Pen) where
-    pub joined-begins : n.kind ≡ B → (q : Pen) → q.wires ≡ put n.above fresh p.wires → SameFilm p q → q.film.now ≡ p.film.now → q.drawn ≡ p.drawn → q.begun ≡ suc p.begun
+  module _ (r : Plotter) where
+    pub joined-begins : n.kind ≡ B → (q : Plotter) → q.pen.wires ≡ put n.above fresh p.pen.wires → SameFilm p q → q.film.now ≡ p.film.now → q.pen.drawn ≡ p.pen.drawn → q.pen.begun ≡ suc p.pen.begun
         → Stubbed n.above x q r → Joined n x p r
     unfolding left opened closed marks begun
     joined-begins e q l lent film drawn more s =
-        let long : n.above ≤ length p.wires = omega (arith, begins-few e) in
-        let its : wire_at q.wires n.above ≡ fresh = ap (λ (v : List Wire). get_or v n.above missing) l ∙ get_or-put n.above fresh missing p.wires long in
-        let self : get_or (put n.above fresh p.wires) n.above (record { net = p.begun; height = axis; since = x }) ≡ fresh =
-        get_or-put n.above fresh (record { net = p.begun; height = axis; since = x }) p.wires long in
+        let long : n.above ≤ length p.pen.wires = omega (arith, begins-few e) in
+        let its : wire_at q.pen.wires n.above ≡ fresh = ap (λ (v : List Wire). get_or v n.above missing) l ∙ get_or-put n.above fresh missing p.pen.wires long in
+        let self : get_or (put n.above fresh p.pen.wires) n.above (record { net = p.pen.begun; height = axis; since = x }) ≡ fresh =
+        get_or-put n.above fresh (record { net = p.pen.begun; height = axis; since = x }) p.pen.wires long in
         record {
           same = s.same ∙ lent;
           nets = rw e (s.nets ∙ more);
-          count = rw e (ap (λ (v : List Wire). length v) (s.wires ∙ l) ∙ length-put n.above fresh p.wires);
+          count = rw e (ap (λ (v : List Wire). length v) (s.wires ∙ l) ∙ length-put n.above fresh p.pen.wires);
           list = rw e (s.wires ∙ l);
           column = s.column;
           records = rw e (s.records ∙ ap (λ (d : ℕ). d + 1) drawn);
           bytes =
               rw e
-              (s.bytes ∙ ap₂ (λ (f : List ℕ) (d : ℕ). laid f d (wall x axis (wire_at q.wires n.above) ∷ [])) film drawn
-              ∙ ap (λ (v : Wire). laid p.film.now p.drawn (wall x axis v ∷ [])) (its ∙ sym self));
+              (s.bytes ∙ ap₂ (λ (f : List ℕ) (d : ℕ). laid f d (wall x axis (wire_at q.pen.wires n.above) ∷ [])) film drawn
+              ∙ ap (λ (v : Wire). laid p.film.now p.pen.drawn (wall x axis v ∷ [])) (its ∙ sym self));
         }
 
     pub joined-goes-on : n.kind ≡ M → Stubbed n.above x p r → Joined n x p r
@@ -100,7 +100,7 @@ module _ (n : Node) (x : ℕ) (p : Pen) (j : Joinable p n x) where
           list = rw e s.wires;
           column = s.column;
           records = rw e s.records;
-          bytes = rw e (s.bytes ∙ ap (λ (v : Wire). laid p.film.now p.drawn (wall x axis v ∷ [])) (same_wire o.stands));
+          bytes = rw e (s.bytes ∙ ap (λ (v : Wire). laid p.film.now p.pen.drawn (wall x axis v ∷ [])) (same_wire o.stands));
         }
 
     pub joined-ends : n.kind ≡ E → Ended n.above x p r → Joined n x p r
@@ -111,11 +111,11 @@ module _ (n : Node) (x : ℕ) (p : Pen) (j : Joinable p n x) where
         record {
           same = s.same;
           nets = rw e s.nets;
-          count = rw e (omega (arith, fewer, length_cut n.above p.wires o.stands));
+          count = rw e (omega (arith, fewer, length_cut n.above p.pen.wires o.stands));
           list = rw e s.wires;
           column = s.column;
           records = rw e s.records;
-          bytes = rw e (s.bytes ∙ ap (λ (v : Wire). laid p.film.now p.drawn (wall x axis v ∷ ran x v ∷ [])) (same_wire o.stands));
+          bytes = rw e (s.bytes ∙ ap (λ (v : Wire). laid p.film.now p.pen.drawn (wall x axis v ∷ ran x v ∷ [])) (same_wire o.stands));
         }
 
     pub joined-blank : n.kind ≡ N → Skipped x p r → Joined n x p r

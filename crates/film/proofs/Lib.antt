@@ -1,6 +1,6 @@
 pub mod Aims
+pub mod Cells
 pub mod Finish
-pub mod Insertions
 pub mod Joints
 pub mod Steadiness
 pub mod Sweeps

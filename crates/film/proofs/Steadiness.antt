@@ -12,7 +12,7 @@ use Rattle.std.specs.List.{AllWithin, range_with_len}
 use Rattle.std.proofs.lemmas.List.FromFn.{get_or-range_with_len, length-range_with_len}
 use Rattle.rules.specs.Basic.{pick}
 use Rattle.rules.specs.Film.{Wire, Sweep, bent, drawn, climb, sink, gap}
-use Rattle.film.specs.declared.moves.Pen.{Pen}
+use Rattle.film.specs.declared.moves.Plotter.{Plotter}
 use Rattle.film.specs.declared.node.Node.{Node}
 use Rattle.film.specs.Stamps.{laid}
 use Rattle.film.specs.Wires.{missing}
@@ -47,11 +47,11 @@ gap-still : (t : ℕ → ℕ) (x : ℕ) (ws : List Wire) → There t 0 ws → ga
 unfolding gap
 gap-still t x ws h = rw (climb-still t 0 (suc x) ws h, sink-still t 0 (suc x) ws h)
 
-pub steady-swept : (n : Node) (p : Pen) (k : ℕ) → 1 ≤ p.column → Reaches n p.wires → Swept (gap (aim n) (p.column - 1) p.wires) k p p
+pub steady-swept : (n : Node) (p : Plotter) (k : ℕ) → 1 ≤ p.pen.column → Reaches n p.pen.wires → Swept (gap (aim n) (p.pen.column - 1) p.pen.wires) k p p
 unfolding laid
 steady-swept n p k h r =
-    let e : gap (aim n) (p.column - 1) p.wires ≡ still (suc (p.column - 1)) p.wires =
-    gap-still (aim n) (p.column - 1) p.wires (λ i l. r i l ∙ ap (aim n) (omega arith)) in
+    let e : gap (aim n) (p.pen.column - 1) p.pen.wires ≡ still (suc (p.pen.column - 1)) p.pen.wires =
+    gap-still (aim n) (p.pen.column - 1) p.pen.wires (λ i l. r i l ∙ ap (aim n) (omega arith)) in
     rw e
     (record {
       same = refl;

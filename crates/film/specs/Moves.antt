@@ -5,6 +5,7 @@ use Rattle.rules.specs.Street.{counted}
 use Rattle.rules.specs.Film.{target, bent, drawn, Sweep, Wire}
 use Rattle.slots.specs.Stamps.{columns}
 use Rattle.film.specs.declared.moves.Pen.{Pen}
+use Rattle.film.specs.declared.moves.Plotter.{Plotter}
 use Rattle.film.specs.declared.node.Node.{Node}
 use Rattle.film.specs.Stamps.{most, laid}
 use Rattle.film.specs.Wires.{wire_at}
@@ -39,27 +40,27 @@ Steady n ws true = Reaches n ws
 Steady n ws false = Unit {0}
 
 -- the film is lent as before
-abbrev pub SameFilm : (p r : Pen) → Type 0
+abbrev pub SameFilm : (p r : Plotter) → Type 0
 SameFilm p r = r.film.ghost_name ≡ p.film.ghost_name
 
 -- the wire with q above it was moved to height h at the pen's column, where the test passed
-pub record Stepped (b : Bool) (h q : ℕ) (p r : Pen) : Type 0 where
+pub record Stepped (b : Bool) (h q : ℕ) (p r : Plotter) : Type 0 where
   pub same : SameFilm p r
-  pub count : length r.wires ≡ length p.wires
-  pub list : r.wires ≡ set p.wires q (bent b h p.column (wire_at p.wires q))
-  pub column : r.column ≡ pick b (suc p.column) p.column
-  pub nets : r.begun ≡ p.begun
-  pub records : r.drawn ≡ p.drawn + length (drawn b h p.column (wire_at p.wires q))
-  pub bytes : r.film.now ≡ laid p.film.now p.drawn (drawn b h p.column (wire_at p.wires q))
+  pub count : length r.pen.wires ≡ length p.pen.wires
+  pub list : r.pen.wires ≡ set p.pen.wires q (bent b h p.pen.column (wire_at p.pen.wires q))
+  pub column : r.pen.column ≡ pick b (suc p.pen.column) p.pen.column
+  pub nets : r.pen.begun ≡ p.pen.begun
+  pub records : r.pen.drawn ≡ p.pen.drawn + length (drawn b h p.pen.column (wire_at p.pen.wires q))
+  pub bytes : r.film.now ≡ laid p.film.now p.pen.drawn (drawn b h p.pen.column (wire_at p.pen.wires q))
 
 -- the wires were swept, with at most k moves
-pub record Swept (w : Sweep) (k : ℕ) (p r : Pen) : Type 0 where
+pub record Swept (w : Sweep) (k : ℕ) (p r : Plotter) : Type 0 where
   pub same : SameFilm p r
-  pub count : length r.wires ≡ length p.wires
-  pub list : r.wires ≡ w.wires
-  pub column : r.column ≡ w.column
-  pub nets : r.begun ≡ p.begun
-  pub records : r.drawn ≡ p.drawn + length w.film
-  pub bytes : r.film.now ≡ laid p.film.now p.drawn w.film
-  pub across : r.column ≤ p.column + k
-  pub room : r.drawn ≤ p.drawn + 2 * k
+  pub count : length r.pen.wires ≡ length p.pen.wires
+  pub list : r.pen.wires ≡ w.wires
+  pub column : r.pen.column ≡ w.column
+  pub nets : r.pen.begun ≡ p.pen.begun
+  pub records : r.pen.drawn ≡ p.pen.drawn + length w.film
+  pub bytes : r.film.now ≡ laid p.film.now p.pen.drawn w.film
+  pub across : r.pen.column ≤ p.pen.column + k
+  pub room : r.pen.drawn ≤ p.pen.drawn + 2 * k

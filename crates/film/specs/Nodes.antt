@@ -8,6 +8,7 @@ use Rattle.rules.specs.Film.{axis, height_at, Rec, Wire, ran, wall, opened, clos
 use Rattle.street.specs.Order.{capacity}
 use Rattle.slots.specs.Stamps.{columns}
 use Rattle.film.specs.declared.moves.Pen.{Pen}
+use Rattle.film.specs.declared.moves.Plotter.{Plotter}
 use Rattle.film.specs.declared.node.Node.{Node}
 use Rattle.film.specs.Stamps.{most, laid}
 use Rattle.film.specs.Wires.{wire_at}
@@ -36,14 +37,14 @@ pub record Joinable (p : Pen) (n : Node) (x : ℕ) : Type 0 where
   pub room : p.drawn + 2 < most
 
 -- the node was drawn
-pub record Joined (n : Node) (x : ℕ) (p r : Pen) : Type 0 where
+pub record Joined (n : Node) (x : ℕ) (p r : Plotter) : Type 0 where
   pub same : SameFilm p r
-  pub count : length r.wires ≡ left n.kind (length p.wires)
-  pub list : r.wires ≡ going n p.begun x p.wires
-  pub column : r.column ≡ suc x
-  pub nets : r.begun ≡ begun n.kind p.begun
-  pub records : r.drawn ≡ p.drawn + length (shown n p.begun x p.wires)
-  pub bytes : r.film.now ≡ laid p.film.now p.drawn (shown n p.begun x p.wires)
+  pub count : length r.pen.wires ≡ left n.kind (length p.pen.wires)
+  pub list : r.pen.wires ≡ going n p.pen.begun x p.pen.wires
+  pub column : r.pen.column ≡ suc x
+  pub nets : r.pen.begun ≡ begun n.kind p.pen.begun
+  pub records : r.pen.drawn ≡ p.pen.drawn + length (shown n p.pen.begun x p.pen.wires)
+  pub bytes : r.film.now ≡ laid p.film.now p.pen.drawn (shown n p.pen.begun x p.pen.wires)
 
 -- there is a wire with so many above it, and room for its records
 pub record Open (p : Pen) (above x : ℕ) : Type 0 where
@@ -52,28 +53,28 @@ pub record Open (p : Pen) (above x : ℕ) : Type 0 where
   pub room : p.drawn + 2 < most
 
 -- the wire's stub was drawn
-pub record Stubbed (above x : ℕ) (p r : Pen) : Type 0 where
+pub record Stubbed (above x : ℕ) (p r : Plotter) : Type 0 where
   pub same : SameFilm p r
-  pub wires : r.wires ≡ p.wires
-  pub column : r.column ≡ suc x
-  pub nets : r.begun ≡ p.begun
-  pub records : r.drawn ≡ p.drawn + 1
-  pub bytes : r.film.now ≡ laid p.film.now p.drawn (wall x axis (wire_at p.wires above) ∷ [])
+  pub wires : r.pen.wires ≡ p.pen.wires
+  pub column : r.pen.column ≡ suc x
+  pub nets : r.pen.begun ≡ p.pen.begun
+  pub records : r.pen.drawn ≡ p.pen.drawn + 1
+  pub bytes : r.film.now ≡ laid p.film.now p.pen.drawn (wall x axis (wire_at p.pen.wires above) ∷ [])
 
 -- the wire's stub and last run were drawn, and it was taken out
-pub record Ended (above x : ℕ) (p r : Pen) : Type 0 where
+pub record Ended (above x : ℕ) (p r : Plotter) : Type 0 where
   pub same : SameFilm p r
-  pub wires : r.wires ≡ cut above p.wires
-  pub column : r.column ≡ suc x
-  pub nets : r.begun ≡ p.begun
-  pub records : r.drawn ≡ p.drawn + 2
-  pub bytes : r.film.now ≡ laid p.film.now p.drawn (wall x axis (wire_at p.wires above) ∷ ran x (wire_at p.wires above) ∷ [])
+  pub wires : r.pen.wires ≡ cut above p.pen.wires
+  pub column : r.pen.column ≡ suc x
+  pub nets : r.pen.begun ≡ p.pen.begun
+  pub records : r.pen.drawn ≡ p.pen.drawn + 2
+  pub bytes : r.film.now ≡ laid p.film.now p.pen.drawn (wall x axis (wire_at p.pen.wires above) ∷ ran x (wire_at p.pen.wires above) ∷ [])
 
 -- nothing was drawn, and the wires stay
-pub record Skipped (x : ℕ) (p r : Pen) : Type 0 where
+pub record Skipped (x : ℕ) (p r : Plotter) : Type 0 where
   pub same : SameFilm p r
-  pub wires : r.wires ≡ p.wires
-  pub column : r.column ≡ suc x
-  pub nets : r.begun ≡ p.begun
-  pub records : r.drawn ≡ p.drawn
+  pub wires : r.pen.wires ≡ p.pen.wires
+  pub column : r.pen.column ≡ suc x
+  pub nets : r.pen.begun ≡ p.pen.begun
+  pub records : r.pen.drawn ≡ p.pen.drawn
   pub bytes : r.film.now ≡ p.film.now

@@ -11,6 +11,7 @@ use Rattle.sheet.specs.Fields.{entries_in}
 use Rattle.sheet.specs.Told.{kind_at, above_at}
 use Rattle.film.specs.declared.node.Node.{Node}
 use Rattle.film.specs.declared.moves.Pen.{Pen}
+use Rattle.film.specs.declared.moves.Plotter.{Plotter}
 use Rattle.film.specs.Stamps.{each, laid}
 use Rattle.film.specs.Moves.{aim, Fitting, SameFilm}
 use Rattle.film.specs.Nodes.{shown, going}
@@ -43,15 +44,15 @@ abbrev pub strokes : Pen → Node → ℕ → List Rec
 strokes p n i = (crossing p n i).film ++ shown n p.begun (pitch * i) (crossing p n i).wires
 
 -- node n was drawn as node i
-pub record Visited (n : Node) (i : ℕ) (p r : Pen) : Type 0 where
+pub record Visited (n : Node) (i : ℕ) (p r : Plotter) : Type 0 where
   pub same : SameFilm p r
-  pub count : length r.wires ≡ left n.kind (length p.wires)
-  pub list : r.wires ≡ going n p.begun (pitch * i) (crossing p n i).wires
-  pub column : r.column ≡ suc (pitch * i)
-  pub nets : r.begun ≡ begun n.kind p.begun
-  pub records : r.drawn ≡ p.drawn + length (strokes p n i)
-  pub bytes : r.film.now ≡ laid p.film.now p.drawn (strokes p n i)
-  pub room : r.drawn ≤ each * suc i
+  pub count : length r.pen.wires ≡ left n.kind (length p.pen.wires)
+  pub list : r.pen.wires ≡ going n p.pen.begun (pitch * i) (crossing p.pen n i).wires
+  pub column : r.pen.column ≡ suc (pitch * i)
+  pub nets : r.pen.begun ≡ begun n.kind p.pen.begun
+  pub records : r.pen.drawn ≡ p.pen.drawn + length (strokes p.pen n i)
+  pub bytes : r.film.now ≡ laid p.film.now p.pen.drawn (strokes p.pen n i)
+  pub room : r.pen.drawn ≤ each * suc i
 
 -- the records of nodes with these fields, under Ku upper tracks
 abbrev pub records_in : ℕ → List ℕ → List Rec

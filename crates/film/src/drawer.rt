@@ -6,7 +6,7 @@ ghost use Rattle.film.specs.Stamps.{each};
 ghost use Rattle.film.specs.Moves.{SameFilm, Started};
 ghost use Rattle.film.specs.Walks.{NodeOf, Due, Visited, records_in, Lain, Drawn};
 
-use crate::moves::Pen;
+use crate::moves::Plotter;
 use crate::node::Node;
 use rules::{DrawError, Drawing, Kind};
 use sheet::inspect::inspect;
@@ -45,17 +45,17 @@ fn count_records(nodes: Nodes) -> usize
 fn lay(nodes: Nodes, film: &mut [u8]) -> usize
     ensures { Lain nodes.entry.streets.upper nodes.entry.fields.now film.old result film.new }
 {
-    let mut pen = Pen::new(film);
-    pen.visit_all(nodes);
-    pen.drawn
+    let mut plotter = Plotter::new(film);
+    plotter.visit_all(nodes);
+    plotter.pen.drawn
 }
 
-impl Pen<'_> {
+impl Plotter<'_> {
     // Draws a sheet's nodes, from the first on.
     fn visit_all(&mut self, nodes: Nodes)
-        requires { Started self.old }
+        requires { Started self.old.pen }
         ensures same { SameFilm self.old self.new }
-        ensures laid { Lain nodes.entry.streets.upper nodes.entry.fields.now self.old.film.now self.new.drawn self.new.film.now }
+        ensures laid { Lain nodes.entry.streets.upper nodes.entry.fields.now self.old.film.now self.new.pen.drawn self.new.film.now }
     {
         let upper = usize::from(nodes.streets.upper);
         for (i, field) in nodes.fields.iter().enumerate() {
@@ -65,7 +65,7 @@ impl Pen<'_> {
 
     // Draws node i, from 0, and the moves before it.
     fn visit(&mut self, node: Node, i: usize)
-        requires { Due self.old node i }
+        requires { Due self.old.pen node i }
         ensures { Visited node i self.old self.new }
     {
         self.cross(node);

@@ -13,39 +13,44 @@ use slots::records::{put_across, put_wall};
 // What the contracts of a gap ask, that a node fits so many wires (`Fitting`) and that so many more moves can be drawn (`Able`), changes from step to step,
 // so that it is no invariant of a node or a pen.
 
-// The film so far: the bytes that are lent, the open wires, the next free column, and the numbers of records drawn and of nets begun. The film may be shorter than what is
-// drawn, so that the records are counted beside it and it is no list.
-#[derive(Drop)]
-pub struct Pen<'a> {
-    pub film: &'a mut [u8],
+// The open wires, the next free column, and the numbers of records drawn and of nets begun.
+#[derive(Clone, Copy)]
+pub struct Pen {
     pub wires: Wires,
     pub column: u16,
     pub drawn: usize,
     pub begun: usize,
 }
 
-impl<'a> Pen<'a> {
+// A pen over the bytes that are lent for the film. The film may be shorter than what is drawn, so that the pen counts the records and the film is no list.
+#[derive(Drop)]
+pub struct Plotter<'a> {
+    pub film: &'a mut [u8],
+    pub pen: Pen,
+}
+
+impl<'a> Plotter<'a> {
     // A film on which nothing is drawn, with no open wires.
-    pub fn new(film: &'a mut [u8]) -> Pen<'a>
+    pub fn new(film: &'a mut [u8]) -> Plotter<'a>
         ensures same { result.film.ghost_name ≡ film.entry.ghost_name }
         ensures bytes { result.film.now ≡ film.old }
-        ensures start { Started result }
+        ensures start { Started result.pen }
     {
-        Pen {
-            film,
+        let pen = Pen {
             wires: Wires::new(),
             column: 1,
             drawn: 0,
             begun: 0,
-        }
+        };
+        Plotter { film, pen }
     }
 
     // Moves every wire to the level that it has at a node.
     pub fn cross(&mut self, node: Node)
-        requires { Able self.old (length self.old.wires + length self.old.wires) × Fitting node (length self.old.wires) × (1 ≤ self.old.column) }
-        ensures { Swept (gap (aim node) (self.old.column - 1) self.old.wires) (length self.old.wires + length self.old.wires) self.old self.new }
+        requires { Able self.old.pen (length self.old.pen.wires + length self.old.pen.wires) × Fitting node (length self.old.pen.wires) × (1 ≤ self.old.pen.column) }
+        ensures { Swept (gap (aim node) (self.old.pen.column - 1) self.old.pen.wires) (length self.old.pen.wires + length self.old.pen.wires) self.old self.new }
     {
-        if is_steady(&self.wires, node) {
+        if is_steady(&self.pen.wires, node) {
             return;
         }
         self.climb(node);
@@ -54,10 +59,10 @@ impl<'a> Pen<'a> {
 
     // Moves the wires that go up, topmost first.
     fn climb(&mut self, node: Node)
-        requires { Able self.old (length self.old.wires) × Fitting node (length self.old.wires) }
-        ensures { Swept (climbing (aim node) 0 self.old.column self.old.wires) (length self.old.wires) self.old self.new }
+        requires { Able self.old.pen (length self.old.pen.wires) × Fitting node (length self.old.pen.wires) }
+        ensures { Swept (climbing (aim node) 0 self.old.pen.column self.old.pen.wires) (length self.old.pen.wires) self.old self.new }
     {
-        for q in 0..self.wires.len() {
+        for q in 0..self.pen.wires.len() {
             self.reach(node, q, rises);
         }
     }
@@ -65,20 +70,20 @@ impl<'a> Pen<'a> {
     // Moves the wires that go down, bottommost first. The two loops stay two: the definition counts a climb from the top and a sink from the bottom, and
     // one loop over places in any order would be neither.
     fn sink(&mut self, node: Node)
-        requires { Able self.old (length self.old.wires) × Fitting node (length self.old.wires) }
-        ensures { Swept (sinking (aim node) 0 self.old.column self.old.wires) (length self.old.wires) self.old self.new }
+        requires { Able self.old.pen (length self.old.pen.wires) × Fitting node (length self.old.pen.wires) }
+        ensures { Swept (sinking (aim node) 0 self.old.pen.column self.old.pen.wires) (length self.old.pen.wires) self.old self.new }
     {
-        for q in (0..self.wires.len()).rev() {
+        for q in (0..self.pen.wires.len()).rev() {
             self.reach(node, q, falls);
         }
     }
 
     // Moves the wire with q above it to the level that it has at a node, where the test says that it goes there from its own.
     fn reach<F: Fn(Level, Level) -> bool>(&mut self, node: Node, q: usize, goes: F)
-        requires { Able self.old 1 × Fitting node (suc q) × (q < length self.old.wires) × F.IsAlwaysCallable goes }
-        ensures { (b : Bool) × F.post goes (wire_at self.old.wires q).height (aim node q) b × Stepped b (aim node q) q self.old self.new }
+        requires { Able self.old.pen 1 × Fitting node (suc q) × (q < length self.old.pen.wires) × F.IsAlwaysCallable goes }
+        ensures { (b : Bool) × F.post goes (wire_at self.old.pen.wires q).height (aim node q) b × Stepped b (aim node q) q self.old self.new }
     {
-        let from = self.wires.at(q).level;
+        let from = self.pen.wires.at(q).level;
         let to = target(node, q);
         if goes(from, to) {
             self.step(q, to);
@@ -87,29 +92,29 @@ impl<'a> Pen<'a> {
 
     // Ends the run of the wire with q above it at the next free column, and moves it there to a level.
     fn step(&mut self, q: usize, level: Level)
-        requires { Able self.old 1 × (q < length self.old.wires) }
+        requires { Able self.old.pen 1 × (q < length self.old.pen.wires) }
         ensures { Stepped true level q self.old self.new }
     {
-        let wire = self.wires.at(q);
+        let wire = self.pen.wires.at(q);
         put_across(
             self.film,
-            self.drawn,
+            self.pen.drawn,
             wire.net,
             wire.level,
             wire.start,
-            self.column,
+            self.pen.column,
         );
         put_wall(
             self.film,
-            self.drawn + 1,
+            self.pen.drawn + 1,
             wire.net,
-            self.column,
+            self.pen.column,
             level,
             wire.level,
         );
-        self.wires.bend(q, level, self.column);
-        self.column += 1;
-        self.drawn += 2;
+        self.pen.wires.bend(q, level, self.pen.column);
+        self.pen.column += 1;
+        self.pen.drawn += 2;
     }
 }
 

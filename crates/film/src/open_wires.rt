@@ -4,15 +4,14 @@ ghost use Rattle.rules.specs.Basic.{put, cut};
 ghost use Rattle.rules.specs.Film.{bent};
 ghost use Rattle.street.specs.Order.{capacity};
 ghost use Rattle.slots.specs.Stamps.{columns};
-ghost use Rattle.film.specs.Wires.{wire_at};
+ghost use Rattle.film.specs.Wires.{missing, wire_at};
 
-use arrayvec::ArrayVec;
-use slots::levels::Level;
+use slots::levels::{Level, level_of_pins};
 use std::marker::Model;
 use street::CAPACITY;
 
-// An open wire; the default stands where none is open, and nothing is drawn of it. Contracts see a wire as the one of which the film's definition speaks.
-#[derive(Clone, Copy, Default)]
+// An open wire. Contracts see it as the wire of which the film's definition speaks.
+#[derive(Clone, Copy)]
 pub struct Wire {
     pub net: u8,
     pub level: Level,
@@ -33,19 +32,31 @@ impl Model for Wire {
     ghost inverse = { λ w. record { net = w.net; level = w.height; start = w.since } };
 }
 
-// The open wires, which a contract sees as their list, from top to bottom.
-#[derive(Drop)]
+// The open wires, which a contract sees as their list, from top to bottom. They are counted, and the cells behind them are free; an `ArrayVec` has no copy.
+#[derive(Clone, Copy)]
 pub struct Wires {
-    list: ArrayVec<Wire, CAPACITY>,
+    cells: [Wire; CAPACITY],
+    count: usize,
 }
 
 impl Model for Wires {
-    ghost use Rattle.std.specs.Prelude.{List};
+    ghost use Rattle.std.specs.Prelude.{◌≡◌, List, ◌≤◌, length, take};
+    ghost use Rattle.std.proofs.Common.{arith, sym, length-take-le};
     ghost use Rattle.rules.specs.Film.{Wire};
+    ghost use Rattle.film.specs.Wires.{cells_with, Sound};
 
     ghost Value = { List Wire };
 
-    ghost view = { λ a. a.list.items };
+    ghost view = { λ a. take a.count a.cells };
+
+    ghost invariant = { λ a. Sound a.cells a.count };
+
+    ghost inverse = { λ l. record { cells = cells_with l; count = length l } };
+
+    ghost inverse_ok = { λ a h i. record {
+      cells = sym h.free i;
+      count = length-take-le a.count a.cells (omega (arith, h.long, h.few)) i;
+    } };
 }
 
 impl Wires {
@@ -54,7 +65,8 @@ impl Wires {
         ensures { result ≡ [] }
     {
         Wires {
-            list: ArrayVec::new(),
+            cells: [free(); CAPACITY],
+            count: 0,
         }
     }
 
@@ -62,7 +74,7 @@ impl Wires {
     pub fn as_slice(&self) -> &[Wire]
         ensures { result.now ≡ self.now }
     {
-        self.list.as_slice()
+        &self.cells[..self.count]
     }
 
     // Their number.
@@ -86,7 +98,9 @@ impl Wires {
         requires { (length self.old < capacity) × (k ≤ length self.old) }
         ensures { self.new ≡ put k wire self.old }
     {
-        self.list.insert(k, wire);
+        self.cells.copy_within(k..self.count, k + 1);
+        self.cells[k] = wire;
+        self.count += 1;
     }
 
     // Takes out the wire behind k others.
@@ -94,7 +108,9 @@ impl Wires {
         requires { k < length self.old }
         ensures { self.new ≡ cut k self.old }
     {
-        self.list.remove(k);
+        self.cells.copy_within(k + 1..self.count, k);
+        self.count -= 1;
+        self.cells[self.count] = free();
     }
 
     // Puts the wire behind k others on another level, where its run begins.
@@ -103,6 +119,17 @@ impl Wires {
         ensures { self.new ≡ set self.old k (bent true level start (wire_at self.old k)) }
     {
         let net = self.at(k).net;
-        self.list.as_mut_slice()[k] = Wire { net, level, start };
+        self.cells[k] = Wire { net, level, start };
+    }
+}
+
+// What a free cell holds.
+fn free() -> Wire
+    ensures { result ≡ missing }
+{
+    Wire {
+        net: 0,
+        level: level_of_pins(),
+        start: 0,
     }
 }

@@ -1,5 +1,5 @@
 -- Signed levels from −3 to 3 against heights: each law is worked out over this small range.
-use mathlib.Core.Path.{◌≡◌, refl, sym, ◌∙◌}
+use mathlib.Core.Path.{◌≡◌, refl, sym, ap, ◌∙◌}
 use mathlib.Core.Bool.{Bool, true, false, not}
 use Prim.Native.Nat.{ℕ, min, zero, suc, ◌+◌, ◌-◌, ◌^◌, ◌≤◌, ◌<◌}
 use native.Mathlib.Numerals.{add-one}
@@ -25,8 +25,11 @@ level-fits (pos n) h = record { sfits = omega arith }
 level-fits (negsuc n) h = record { sfits = omega arith }
 
 -- the bits of a level, as the code passes it on, are the level's
-kept : (z : ℤ) → Level z → to_z w8 (of_z w8 z) ≡ z
+pub kept : (z : ℤ) → Level z → to_z w8 (of_z w8 z) ≡ z
 kept z h = to_z-of_z w8 z (level-fits z h)
+
+pub kept_high : (z : ℤ) → Level z → high (to_z w8 (of_z w8 z)) ≡ high z
+kept_high z h = ap high (kept z h)
 
 same_test : (a b c d : ℕ) → (a < b → c < d) → (b ≤ a → d ≤ c) → ltb a b ≡ ltb c d
 same_test a b c d f g = go (ltb a b) refl

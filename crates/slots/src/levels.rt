@@ -5,8 +5,8 @@ ghost use Rattle.rules.specs.Film.{axis, upper_at, height_at};
 use rules::Kind;
 use std::marker::Model;
 
-// A level from −3 to 3, of which the level of the pins is the default. Contracts see it as its height, level + 4, of which the film's definition speaks.
-#[derive(Clone, Copy, Default, PartialEq, Eq, PartialOrd, Ord)]
+// A level from −3 to 3. Contracts see it as its height, level + 4, of which the film's definition speaks.
+#[derive(Clone, Copy, PartialEq, Eq, PartialOrd, Ord)]
 pub struct Level(i8);
 
 impl Model for Level {

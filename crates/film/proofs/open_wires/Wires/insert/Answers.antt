@@ -1,15 +1,21 @@
--- `film::open_wires::Wires::insert` meets its contract (`inserted`). Assumes nothing.
+-- `film::open_wires::Wires::insert` meets its contract: the wires from k on stand one further (`put-cells`). Assumes nothing.
 use mathlib.Core.Path.{ap, ◌∙◌}
-use mathlib.Core.List.{List}
 use native.Mathlib.Omega.{arith}
-use lib.ListN.{length}
 use Rattle.rules.specs.Basic.{put}
-use Rattle.rules.specs.Film.{Wire}
-use Rattle.film.proofs.Insertions.{inserted}
+use Rattle.film.proofs.Cells.{count_seen, put-cells, put-sound}
 use Rattle.film.proofs.open_wires.Wires.insert.Goals as goal
+
+pub invariant_of-self : goal.invariant_of-self
+invariant_of-self c =
+    let w = c.self in
+    let n = count_seen w.invariant w.view_is in
+    put-sound w.invariant _ _ c.copy_within.new.self (omega (arith, n, c.requires)) (omega (arith, n, c.requires)) c.copy_within.ensures.len c.copy_within.ensures.after
 
 pub returns : goal.returns
 returns c =
     let a = c.args in
-    let n = ap (λ (l : List Wire). length l) c.self.view_is in
-    c.insert.ensures.items ∙ inserted c.self.inside.list.items a.k a.wire (omega (arith, n, c.requires.1)) ∙ ap (put a.k a.wire) c.self.view_is
+    let w = c.self in
+    let n = count_seen w.invariant w.view_is in
+    put-cells a.k w.inside.count a.wire w.inside.cells c.copy_within.new.self (omega (arith, n, c.requires)) (omega (arith, n, c.requires, w.invariant.long))
+    c.copy_within.ensures.after
+    ∙ ap (put a.k a.wire) w.view_is

@@ -1,4 +1,4 @@
--- `film::moves::Pen::end` meets its contract: the stub, and then the last run (`end-drawn`). Assumes nothing.
+-- `film::moves::Plotter::end` meets its contract: the stub, and then the last run (`end-drawn`). Assumes nothing.
 use mathlib.Core.Path.{ap, ◌∙◌}
 use mathlib.Core.List.{List}
 use native.Mathlib.Omega.{arith}
@@ -6,7 +6,7 @@ use Rattle.rules.specs.Basic.{cut}
 use Rattle.rules.specs.Film.{Wire}
 use Rattle.film.specs.Wires.{wire_at}
 use Rattle.film.proofs.Joints.{end-drawn}
-use Rattle.film.proofs.moves.Pen.end.Goals as goal
+use Rattle.film.proofs.moves.Plotter.end.Goals as goal
 
 pub returns : goal.returns
 returns c =
@@ -20,5 +20,5 @@ returns c =
       wires = c.remove.ensures ∙ ap (λ (l : List Wire). cut a.above l) s.wires;
       column = s.column;
       records = omega (arith, s.records);
-      bytes = end-drawn p.film.now c.pass.new.self.film.now c.put_across.new.film p.drawn c.pass.new.self.drawn a.x there s.records s.bytes c.put_across.ensures;
+      bytes = end-drawn p.film.now c.pass.new.self.film.now c.put_across.new.film p.pen.drawn c.pass.new.self.pen.drawn a.x there s.records s.bytes c.put_across.ensures;
     }

@@ -1,8 +1,8 @@
--- `film::moves::Pen::pass` meets its contract: `stub-drawn`. Assumes nothing.
+-- `film::moves::Plotter::pass` meets its contract: `stub-drawn`. Assumes nothing.
 use mathlib.Core.Path.{refl, ◌∙◌}
 use native.Mathlib.Numerals.{add-one}
 use Rattle.film.proofs.Joints.{stub-drawn}
-use Rattle.film.proofs.moves.Pen.pass.Goals as goal
+use Rattle.film.proofs.moves.Plotter.pass.Goals as goal
 
 pub returns : goal.returns
 returns c =
@@ -14,5 +14,5 @@ returns c =
       wires = refl;
       column = add-one a.x;
       records = refl;
-      bytes = stub-drawn p.film.now c.put_wall.new.film p.drawn a.x c.level_of_pins.ensures (c.wire.view_is ∙ c.at-wire.ensures) c.put_wall.ensures;
+      bytes = stub-drawn p.film.now c.put_wall.new.film p.pen.drawn a.x c.level_of_pins.ensures (c.wire.view_is ∙ c.at-wire.ensures) c.put_wall.ensures;
     }

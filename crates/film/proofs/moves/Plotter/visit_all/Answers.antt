@@ -1,7 +1,7 @@
--- `film::moves::Pen::visit_all` meets its contract, by the invariant of Invariants.antt. Assumes nothing.
+-- `film::moves::Plotter::visit_all` meets its contract, by the invariant of Invariants.antt. Assumes nothing.
 use native.Mathlib.Omega.{arith}
 use Rattle.film.proofs.Trips.{walk_start, walk-above, walk-due, walk_step, walk_end}
-use Rattle.film.proofs.moves.Pen.visit_all.Goals as goal
+use Rattle.film.proofs.moves.Plotter.visit_all.Goals as goal
 
 pub loop-i-init : goal.loop-i-init
 loop-i-init c = let g = c.args.nodes in walk_start g.fields.now c.args.self.now g.clear c.requires

@@ -1,8 +1,8 @@
--- `film::moves::Pen::visit` meets its contract: the gap and then the node, kind by kind (`visit-visited`). Assumes nothing.
+-- `film::moves::Plotter::visit` meets its contract: the gap and then the node, kind by kind (`visit-visited`). Assumes nothing.
 use native.Mathlib.Omega.{arith}
 use Rattle.film.proofs.Joints.{goes-on-open, ends_open, joined-goes-on, joined-ends, joined-blank}
 use Rattle.film.proofs.Trips.{visit-able, visit-joinable, visit-visited}
-use Rattle.film.proofs.moves.Pen.visit.Goals as goal
+use Rattle.film.proofs.moves.Plotter.visit.Goals as goal
 
 pub cross-requires : goal.cross-requires
 cross-requires c =

@@ -1,4 +1,4 @@
--- `film::moves::Pen::climb` meets its contract, by the invariant of Invariants.antt. Assumes nothing.
+-- `film::moves::Plotter::climb` meets its contract, by the invariant of Invariants.antt. Assumes nothing.
 use mathlib.Core.Path.{refl}
 use borrow.Author.Rules.{rules}
 use Prim.Native.Nat.{◌<◌}
@@ -7,12 +7,12 @@ use lib.ListN.{length}
 use Rattle.film.specs.Moves.{aim}
 use Rattle.film.proofs.Aims.{fitting-less}
 use Rattle.film.proofs.Sweeps.{step-as, climb-step, climb-end}
-use Rattle.film.proofs.moves.Pen.climb.Goals as goal
+use Rattle.film.proofs.moves.Plotter.climb.Goals as goal
 
 pub reach-requires : goal.reach-requires
 reach-requires c =
     let l = c.loop-q in
-    let within : l.q < length c.args.self.now.wires = omega (arith, c.loop-q-test.true, c.len-q-end.ensures) in (
+    let within : l.q < length c.args.self.now.pen.wires = omega (arith, c.loop-q-test.true, c.len-q-end.ensures) in (
       record { across = omega (arith, c.requires.0.across, l.invariant.across, within); room = omega (arith, c.requires.0.room, l.invariant.room, within) },
       fitting-less c.requires.1 within,
       omega (arith, within, l.invariant.count),
@@ -22,7 +22,7 @@ reach-requires c =
 pub loop-q-preserved : goal.loop-q-preserved
 loop-q-preserved c =
     let l = c.loop-q in
-    let within : l.q < length l.self.wires = omega (arith, c.loop-q-test.true, c.len-q-end.ensures, l.invariant.count) in
+    let within : l.q < length l.self.pen.wires = omega (arith, c.loop-q-test.true, c.len-q-end.ensures, l.invariant.count) in
     let r = c.reach.ensures in
     climb-step (aim c.args.node) c.args.self.now l.self c.reach.new.self l.q l.invariant within (step-as l.self l.q r.1.2 refl r.2)
 

@@ -1,4 +1,4 @@
--- `film::moves::Pen::sink` meets its contract, by the invariant of Invariants.antt. Assumes nothing.
+-- `film::moves::Plotter::sink` meets its contract, by the invariant of Invariants.antt. Assumes nothing.
 use mathlib.Core.Path.{◌≡◌, refl}
 use borrow.Author.Rules.{rules}
 use Prim.Native.Nat.{suc, ◌-◌}
@@ -6,7 +6,7 @@ use native.Mathlib.Omega.{arith}
 use Rattle.film.specs.Moves.{aim}
 use Rattle.film.proofs.Aims.{fitting-less}
 use Rattle.film.proofs.Sweeps.{step-as, sink-start, sink-step}
-use Rattle.film.proofs.moves.Pen.sink.Goals as goal
+use Rattle.film.proofs.moves.Plotter.sink.Goals as goal
 
 pub loop-q-init : goal.loop-q-init
 loop-q-init c = rw c.len-q.ensures (sink-start (aim c.args.node) c.args.self.now)

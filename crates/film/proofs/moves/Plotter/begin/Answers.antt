@@ -1,4 +1,4 @@
--- `film::moves::Pen::begin` meets its contract: `joined-begins`. Assumes nothing.
+-- `film::moves::Plotter::begin` meets its contract: `joined-begins`. Assumes nothing.
 use mathlib.Core.Path.{refl, ap, ◌∙◌}
 use Prim.Native.Nat.{ℕ}
 use native.Mathlib.Numerals.{add-one}
@@ -9,7 +9,7 @@ use Rattle.rules.specs.Basic.{put}
 use Rattle.rules.specs.Film.{height_at, Wire}
 use Rattle.rules.proofs.Lists.{length-put}
 use Rattle.film.proofs.Joints.{begins-few, begins-near, joined-begins}
-use Rattle.film.proofs.moves.Pen.begin.Goals as goal
+use Rattle.film.proofs.moves.Plotter.begin.Goals as goal
 
 pub overflow_add-node : goal.overflow_add-node
 overflow_add-node c =
@@ -51,5 +51,5 @@ returns c =
     let a = c.args in
     let p = a.self.now in
     let h = c.level_at-level.ensures ∙ ap (height_at a.node.upper) (add-one a.node.above) in
-    let list = c.insert.ensures ∙ ap (λ (z : ℕ). put a.node.above (record { net = a.self.now.begun; height = z; since = a.x }) p.wires) h in
-    joined-begins a.node a.x p c.requires.0 c.pass.new.self c.requires.1 _ list refl refl refl (add-one p.begun) c.pass.ensures
+    let list = c.insert.ensures ∙ ap (λ (z : ℕ). put a.node.above (record { net = a.self.now.pen.begun; height = z; since = a.x }) p.pen.wires) h in
+    joined-begins a.node a.x p c.requires.0 c.pass.new.self c.requires.1 _ list refl refl refl (add-one p.pen.begun) c.pass.ensures

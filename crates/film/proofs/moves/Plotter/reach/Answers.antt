@@ -1,9 +1,9 @@
--- `film::moves::Pen::reach` meets its contract: a wire moves where the test says so, and rests elsewhere (`step-rests`). Assumes nothing.
+-- `film::moves::Plotter::reach` meets its contract: a wire moves where the test says so, and rests elsewhere (`step-rests`). Assumes nothing.
 use mathlib.Core.Path.{ap, ◌∙◌}
 use Rattle.rules.specs.Film.{Wire}
 use Rattle.film.specs.Moves.{aim}
 use Rattle.film.proofs.Sweeps.{step-rests}
-use Rattle.film.proofs.moves.Pen.reach.Goals as goal
+use Rattle.film.proofs.moves.Plotter.reach.Goals as goal
 
 pub returns : goal.returns
 returns g c =

@@ -1,7 +1,0 @@
--- `film::moves::Pen::climb` meets its contract. The loop's invariant: what is left of the climb leads to the whole (`Climbing`). Assumes nothing.
-use Rattle.film.specs.Moves.{aim}
-use Rattle.film.proofs.Sweeps.{Climbing}
-use Rattle.film.proofs.moves.Pen.climb.Given as goal
-
-abbrev pub invariant-loop-q : goal.invariant-loop-q
-invariant-loop-q l = Climbing (aim l.node) l.initial.self l.self l.q
