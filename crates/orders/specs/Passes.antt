@@ -61,8 +61,3 @@ pub record First (ku kl : ℕ) (ss : List Step) (r : ℕ) (ps : List ℕ) : Type
   pub end : ℕ
   pub runs : hops ku kl ss r ps ≡ some end
   pub others : (qs : List ℕ) (x : ℕ) → hops ku kl ss r qs ≡ some x → (qs ≡ ps) ⊎ Earlier ps qs
-
--- the positions of all nodes, from 0, a byte each
-pub record Picked (ku kl : ℕ) (ss : List Step) (ps : List ℕ) : Type 0 where
-  pub cells : length ps ≡ 512
-  pub first : First ku kl ss 0 (take (length ss) ps)

@@ -41,7 +41,10 @@ fn route_between(row: &[u8], streets: Streets, work: &mut [u8], sheet: &mut [u8]
     ensures { Routed row.now streets.upper streets.lower work.old sheet.old result work.new sheet.new }
 {
     let n = row.len();
-    let labels = Labels::of(row);
+    // Two cells for each label: there is no heap.
+    let mut first = [0; 256];
+    let mut last = [0; 256];
+    let labels = Labels::of(row, &mut first, &mut last);
     if let Some(alone) = labels.lone() {
         return Err(RouteError::Lone(alone + 1));
     }

@@ -8,26 +8,25 @@ use rules::BLANK;
 // The labels that nets can have.
 const NETS: usize = BLANK as usize;
 
-// A row's labels: for each its first and its last node, counted from 1, and 0 where it does not occur: two arrays that begin as [0; 256] and are filled once per row, as the exact
-// rules name them.
-#[derive(Drop)]
+// A row's labels: for each its first and its last node, counted from 1, in two arrays that are filled once per row, as the exact rules name them. They are lent, since a
+// struct that has them is copied where it is returned.
+#[derive(Clone, Copy)]
 pub struct Labels<'a> {
     pub row: &'a [u8],
-    pub first: [u16; 256],
-    pub last: [u16; 256],
-    ghost tabled: { Tabled row.now first last },
+    pub first: &'a [u16; 256],
+    pub last: &'a [u16; 256],
+    ghost tabled: { Tabled row.now first.now last.now },
 }
 
-impl Labels<'_> {
-    // The labels of a row. That it has at most 512 nodes is asked here, where they are noted, and where the plan is told: `lone` serves a row of any length.
-    pub fn of(row: &[u8]) -> Labels<'_>
+impl<'a> Labels<'a> {
+    // The labels of a row, noted in two arrays that begin as [0; 256]: what they hold for a label that does not occur stays. That the row has at most 512 nodes is asked here,
+    // where they are noted, and where the plan is told: `lone` serves a row of any length.
+    pub fn of(row: &'a [u8], first: &'a mut [u16; 256], last: &'a mut [u16; 256]) -> Labels<'a>
         requires { length row.now ≤ 512 }
         ensures { result.row.now ≡ row.now }
     {
-        let mut first = [0; 256];
-        note_firsts(row, &mut first);
-        let mut last = [0; 256];
-        note_lasts(row, &mut last);
+        note_firsts(row, first);
+        note_lasts(row, last);
         Labels { row, first, last }
     }
 
@@ -46,10 +45,12 @@ impl Labels<'_> {
     // is not counted where its entries are 0, so that a row of which no label is lone need not be gone through. The loop adds, since `sum` asks beforehand that whatever
     // part of the numbers is taken adds up within u16.
     fn lone_labels(&self) -> u16
-        ensures { result ≡ 0 → Apart self.now.first self.now.last 255 }
+        ensures { result ≡ 0 → Apart self.now.first.now self.now.last.now 255 }
     {
+        let firsts = self.first;
+        let lasts = self.last;
         let mut count = 0;
-        for (first, last) in self.first[..NETS].iter().zip(&self.last[..NETS]) {
+        for (first, last) in firsts[..NETS].iter().zip(&lasts[..NETS]) {
             count += one_node(*first, *last);
         }
         count
@@ -57,14 +58,14 @@ impl Labels<'_> {
 
     // The first node whose label is a net's of one node, gone through node by node.
     fn first_lone(&self) -> Option<usize>
-        ensures { result ≡ position (lone_label self.now.first self.now.last) self.now.row.now }
+        ensures { result ≡ position (lone_label self.now.first.now self.now.last.now) self.now.row.now }
     {
         self.row.iter().position(|x| self.is_lone(*x))
     }
 
     // Whether the label is a net's, and its first and its last node are one.
     fn is_lone(&self, label: u8) -> bool
-        ensures { result ≡ lone_label self.now.first self.now.last label }
+        ensures { result ≡ lone_label self.now.first.now self.now.last.now label }
     {
         let at = usize::from(label);
         label != BLANK && self.first[at] == self.last[at]

@@ -318,9 +318,7 @@ pub fn locate(a: usize, b: usize, r: usize) -> Place
             rest: place.rest,
         };
     }
-    let unit = factorial(b - 1);
-    let first = r / unit;
-    let others = r % unit;
+    let (first, others) = parted(b, r);
     if a == 0 {
         return Place {
             at: first,
@@ -328,6 +326,18 @@ pub fn locate(a: usize, b: usize, r: usize) -> Place
         };
     }
     beside(first, factorial(b - 2), locate(a - 1, b - 1, others))
+}
+
+// The first digit of a rank of five or six nets, and the rank of the others, by constants: a division by a number from a table takes several times as long.
+fn parted(b: usize, r: usize) -> (usize, usize)
+    requires { (4 < b) × (b ≤ capacity) }
+    ensures { (result.0 ≡ r / fact (b - 1)) × (result.1 ≡ r % fact (b - 1)) }
+{
+    if b == 5 {
+        (r / 24, r % 24)
+    } else {
+        (r / 120, r % 120)
+    }
 }
 
 // Where the net with e elders stands in the order of rank r of four nets.

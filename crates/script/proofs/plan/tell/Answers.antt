@@ -11,13 +11,13 @@ turn_at-turn-requires c =
     let l = c.loop-i in
     let r = c.args.labels.now in
     rw (c.from-at.ensures, add-one l.i)
-    (telling-turning r.row.now r.first r.last l.plan l.nets l.i r.tabled c.requires l.invariant c.loop-i-test.true)
+    (telling-turning r.row.now r.first.now r.last.now l.plan l.nets l.i r.tabled c.requires l.invariant c.loop-i-test.true)
 
 pub returns-in_default : goal.returns-in_default
 returns-in_default c =
     let l = c.loop-i in
     let r = c.args.labels.now in
-    telling-full r.row.now r.first r.last l.plan l.nets l.i r.tabled c.requires l.invariant c.loop-i-test.true
+    telling-full r.row.now r.first.now r.last.now l.plan l.nets l.i r.tabled c.requires l.invariant c.loop-i-test.true
     (rw (c.from-at.ensures, add-one l.i) at c.in_default.ensures)
 
 pub loop-i-preserved : goal.loop-i-preserved
@@ -25,7 +25,7 @@ loop-i-preserved c =
     let l = c.loop-i in
     let r = c.args.labels.now in
     rw (add-one l.i)
-    (telling-more r.row.now r.first r.last l.plan l.nets l.i r.tabled c.requires l.invariant c.loop-i-test.true
+    (telling-more r.row.now r.first.now r.last.now l.plan l.nets l.i r.tabled c.requires l.invariant c.loop-i-test.true
     c.in-Some.step c.turn_at-turn.new.nets (rw (c.from-at.ensures, add-one l.i) at c.in-Some.ensures))
 
 pub returns : goal.returns

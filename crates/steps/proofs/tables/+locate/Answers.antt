@@ -36,54 +36,59 @@ returns-then-b-lt5 t c =
       rest = c.spot-place.ensures.rest ∙ left-few c.args.b c.args.a c.requires.0 m c.args.r c.requires.2;
     }
 
+pub parted-first-requires : goal.parted-first-requires
+parted-first-requires t c = (omega (arith, c.if-b-lt5.false), c.requires.1)
+
 pub returns-then-a-eq0 : goal.returns-then-a-eq0
 returns-then-a-eq0 t c =
     let x = c.args in
-    let u = c.factorial-unit in
+    let q = c.parted-first.ensures in
     let e : x.b ≡ suc (x.b - 1) = omega (arith, c.if-b-lt5.false) in
     record {
-      at = at-youngest x.a x.b (x.b - 1) x.r u.result c.if-a-eq0.true e u.ensures.value;
-      rest = less-youngest x.a x.b (x.b - 1) x.r u.result c.if-a-eq0.true e u.ensures.value;
+      at = q.0 ∙ at-youngest x.a x.b (x.b - 1) x.r (fact (x.b - 1)) c.if-a-eq0.true e refl;
+      rest = q.1 ∙ less-youngest x.a x.b (x.b - 1) x.r (fact (x.b - 1)) c.if-a-eq0.true e refl;
     }
 
 pub locate-requires : goal.locate-requires
 locate-requires t c =
     let x = c.args in
-    let u = c.factorial-unit in
-    let l : x.r % u.result < fact (x.b - 1) = rw u.ensures.value (mod-lt x.r (fact-pos (x.b - 1))) in
-    (omega (arith, c.if-a-eq0.false), (omega (arith, c.requires.0, c.if-a-eq0.false), omega (arith, c.requires.1), l))
+    let q = c.parted-first.ensures in
+    let l : x.r % fact (x.b - 1) < fact (x.b - 1) = mod-lt x.r (fact-pos (x.b - 1)) in
+    (omega (arith, c.if-a-eq0.false), (omega (arith, c.requires.0, c.if-a-eq0.false), omega (arith, c.requires.1), rw q.1 l))
 
 pub beside-requires : goal.beside-requires
 beside-requires t c =
     let x = c.args in
-    let u = c.factorial-unit in
+    let q = c.parted-first.ensures in
     let o = c.locate.ensures in
     let e : x.b ≡ suc (x.b - 1) = omega (arith, c.if-b-lt5.false) in
-    let l : x.r % u.result < fact (x.b - 1) = rw u.ensures.value (mod-lt x.r (fact-pos (x.b - 1))) in
+    let l : c.parted-first.result.1 < fact (x.b - 1) = rw q.1 (mod-lt x.r (fact-pos (x.b - 1))) in
     let a : x.a - 1 < x.b - 1 = omega (arith, c.requires.0, c.if-a-eq0.false) in
     record {
       first_le_capacity = (
-        omega (arith, c.requires.1, at-youngest 0 x.b (x.b - 1) x.r u.result refl e u.ensures.value, at_lt 0 x.b x.r (omega arith) c.requires.2),
+        omega (arith, c.requires.1, q.0, at-youngest 0 x.b (x.b - 1) x.r (fact (x.b - 1)) refl e refl, at_lt 0 x.b x.r (omega arith) c.requires.2),
         c.factorial.ensures.most,
       );
       at_lt_capacity = (
-        omega (arith, c.requires.1, o.at, at_lt (x.a - 1) (x.b - 1) (x.r % u.result) a l),
-        omega (arith, o.rest, less-lt (x.a - 1) (x.b - 1) (x.r % u.result) a l, fact-six (x.b - 1 - 1) (omega (arith, c.requires.1))),
+        omega (arith, c.requires.1, o.at, at_lt (x.a - 1) (x.b - 1) c.parted-first.result.1 a l),
+        omega (arith, o.rest, less-lt (x.a - 1) (x.b - 1) c.parted-first.result.1 a l, fact-six (x.b - 1 - 1) (omega (arith, c.requires.1))),
       );
     }
 
 pub returns : goal.returns
 returns t c =
     let x = c.args in
-    let u = c.factorial-unit in
+    let q = c.parted-first.ensures in
     let v = c.factorial in
     let o = c.locate in
     let b = c.beside.ensures in
     let eb : x.b ≡ suc (x.b - 1) = omega (arith, c.if-b-lt5.false) in
     let ea : x.a ≡ suc (x.a - 1) = omega (arith, c.if-a-eq0.false) in
     let ev : v.result ≡ fact (x.b - 1 - 1) = v.ensures.value ∙ ap fact (omega arith) in
+    let at = rw q.1 at o.ensures.at in
+    let rest = rw q.1 at o.ensures.rest in
     record {
-      at = b.at ∙ at-older x.a x.b (x.a - 1) (x.b - 1) x.r u.result o.result.at ea eb u.ensures.value o.ensures.at;
-      rest = b.rest ∙ ap (λ (n : ℕ). spared (x.r / u.result) o.result.at * n + o.result.rest) ev
-          ∙ less-older x.a x.b (x.a - 1) (x.b - 1) x.r u.result o.result.at ea eb u.ensures.value o.ensures.at o.result.rest o.ensures.rest;
+      at = (rw q.0 at b.at) ∙ at-older x.a x.b (x.a - 1) (x.b - 1) x.r (fact (x.b - 1)) o.result.at ea eb refl at;
+      rest = (rw q.0 at b.rest) ∙ ap (λ (n : ℕ). spared (x.r / fact (x.b - 1)) o.result.at * n + o.result.rest) ev
+          ∙ less-older x.a x.b (x.a - 1) (x.b - 1) x.r (fact (x.b - 1)) o.result.at ea eb refl at o.result.rest rest;
     }
