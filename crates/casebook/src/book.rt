@@ -101,6 +101,16 @@ impl<'a, P: Print> Casebook<'a, P> {
         self.rt.write_all(text)
     }
 
+    // How many cases were asked.
+    pub fn cases(&self) -> u64 {
+        self.cases
+    }
+
+    // How many of them had an answer or a byte that differs from what is wanted.
+    pub fn wrong(&self) -> u64 {
+        self.wrong
+    }
+
     // Prints how many cases were asked, and how many are wrong.
     pub fn print_counts(&self) -> io::Result<()> {
         let cases = self.cases;

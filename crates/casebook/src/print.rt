@@ -11,12 +11,13 @@ pub struct Written<'a> {
     pub bytes: &'a [u8],
 }
 
-// `number at place` and the bytes in hex, `-` for none. Of more than 400 the first and the last 20.
+// `number at place` and the bytes in hex, `-` for none. Of more than 400 the first and the last 20. No call answers 99: it stands where the buffers that a line names
+// cannot be lent.
 impl Display for Written<'_> {
     fn fmt<W: fmt::Write>(&self, f: &mut fmt::Formatter<W>) -> fmt::Result {
         match self.said {
             Some(said) => write!(f, "{said} ")?,
-            None => write!(f, "no answer ")?,
+            None => write!(f, "99 at 0 ")?,
         }
         let n = self.bytes.len();
         if n == 0 {

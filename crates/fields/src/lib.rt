@@ -1,19 +1,23 @@
 // The fields of a line: bytes in hex or as they stand, with `-` for none, and decimal numbers of at most five digits, one space apart.
 #![tactic(auto)]
 
-ghost use Rattle.std.specs.Prelude.{◌<◌, IfSome};
+ghost use Rattle.std.specs.Prelude.{◌≡◌, ◌≤◌, ◌<◌, length, IfSome};
 
 use answers::Said;
 use std::fmt;
 
 // Field k of a line, from 0; an empty part where the line has fewer. Line and k stand apart in each function: a type for lines would have no fact to hold, and cases,
 // whose lines are handed over as bytes, would wrap them in each function that reads one.
-pub fn field(line: &[u8], k: usize) -> &[u8] {
+pub fn field(line: &[u8], k: usize) -> &[u8]
+    ensures { length result.now ≤ length line.now }
+{
     line.split(|byte| *byte == b' ').nth(k).unwrap_or(b"")
 }
 
-// The bytes of field k, put to the start of `out`; none where it is not in order or is longer than `out`. Memory is lent, so that no line fails for want of it.
-pub fn bytes<'a>(line: &[u8], k: usize, out: &'a mut [u8]) -> Option<&'a [u8]> {
+// The bytes of field k, put to the start of `out`; none where it is not in order or is longer than `out`, and then those before what is no byte are put. Memory is lent, so that no line fails for want of it.
+pub fn bytes<'a>(line: &[u8], k: usize, out: &'a mut [u8]) -> Option<&'a [u8]>
+    ensures { IfSome result (λ r. length r.now ≤ length out.old) }
+{
     let text = letters(line, k)?;
     if text.len() % 2 == 0 {
         decoded(text, out.get_mut(..text.len() / 2)?)
@@ -23,7 +27,9 @@ pub fn bytes<'a>(line: &[u8], k: usize, out: &'a mut [u8]) -> Option<&'a [u8]> {
 }
 
 // Decodes the pairs of digits of a text to as many bytes; none where one is no digit.
-fn decoded<'a>(text: &[u8], out: &'a mut [u8]) -> Option<&'a [u8]> {
+fn decoded<'a>(text: &[u8], out: &'a mut [u8]) -> Option<&'a [u8]>
+    ensures { IfSome result (λ r. length r.now ≡ length out.old) }
+{
     for (byte, [high, low]) in out.iter_mut().zip(text.as_chunks::<2>().0) {
         *byte = 16 * digit(*high)? + digit(*low)?;
     }
@@ -42,7 +48,9 @@ fn digit(byte: u8) -> Option<u8>
 }
 
 // Field k as it stands; none where it is empty.
-pub fn letters(line: &[u8], k: usize) -> Option<&[u8]> {
+pub fn letters(line: &[u8], k: usize) -> Option<&[u8]>
+    ensures { IfSome result (λ text. length text.now ≤ length line.now) }
+{
     match field(line, k) {
         b"" => None,
         b"-" => Some(b""),

@@ -4,16 +4,23 @@
 pub mod films;
 
 use rules::{RouteError, Routing};
+use std::array;
 
-// What stands at an index of a buffer before a call. It is never 0. `tallies` has such a pattern with a seed, and fills and looks for it by loops like those here: the
-// four over any pattern would be the same loops, with the pattern as a closure that each caller passes.
-fn pattern(i: usize) -> u8 {
-    (i % 251) as u8 + 3
+// The pattern comes again after so many bytes.
+const PERIOD: usize = 251;
+
+// What stands in a buffer before a call, over and over from its start; no byte is 0. It is laid and looked for a period at a time: with a division for each byte the
+// programs of tests take up to three times as long. `tallies` has such a pattern with a seed, and fills and looks for it by loops of its own.
+fn pattern() -> [u8; PERIOD] {
+    array::from_fn(|i| (i % PERIOD) as u8 + 3)
 }
 
 pub fn fill(buffer: &mut [u8]) {
-    for (i, byte) in buffer.iter_mut().enumerate() {
-        *byte = pattern(i);
+    let pattern = pattern();
+    for chunk in buffer.chunks_mut(PERIOD) {
+        for (byte, wanted) in chunk.iter_mut().zip(&pattern) {
+            *byte = *wanted;
+        }
     }
 }
 
@@ -26,11 +33,16 @@ pub fn spoil(buffer: &mut [u8], wanted: &[u8]) {
 
 // Whether a buffer still has the pattern from an index on.
 pub fn is_kept(buffer: &[u8], from: usize) -> bool {
-    buffer
-        .iter()
-        .enumerate()
-        .skip(from)
-        .all(|(i, byte)| *byte == pattern(i))
+    let Some(rest) = buffer.get(from..) else {
+        return true;
+    };
+    let pattern = pattern();
+    let behind = &pattern[from % PERIOD..];
+    let (start, others) = rest.split_at(behind.len().min(rest.len()));
+    behind.starts_with(start)
+        && others
+            .chunks(PERIOD)
+            .all(|chunk| pattern.starts_with(chunk))
 }
 
 // Fills a buffer with the pattern, and its start with bytes that differ from those wanted there, so that each of those must be written.

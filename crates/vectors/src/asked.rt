@@ -50,11 +50,12 @@ impl Asked {
         }
     }
 
-    // Whether the row of a line has a blank.
+    // Whether the row of a line has a blank; of a row that is not in order, whether the bytes before what is no byte have one.
     pub fn has_blank(self, line: &[u8]) -> bool {
-        // An array is lent, so that no line fails for want of memory.
+        // An array is lent, so that no line fails for want of memory. Where nothing is put it has zeros.
         let mut row = [0u8; 1024];
-        bytes(line, self.row_field(), &mut row).is_some_and(|row| row.contains(&BLANK))
+        bytes(line, self.row_field(), &mut row);
+        row.contains(&BLANK)
     }
 
     // The field that a line's row is in.
