@@ -1,12 +1,15 @@
 // A sheet's film: what the drawer says of the sheet and draws, against the second router's wires.
-use rules::{DrawError, Drawing, Fault};
-use secondfilm::sheets::record_count;
-use secondfilm::wires::{Film, FilmError};
-use secondreader::picture::shows;
+use answers::Said;
+use secondfilm::records::Place;
+use secondfilm::sheets::records;
+use secondfilm::wires::{Film, LEVELS, LentFilm, Point};
+use secondreader::picture::shows_wires;
+use secondrouter::nets::Node;
 use secondrouter::placing::Placing;
+use secondrouter::streets::Streets;
 use std::alloc::{AllocError, Global};
 use tallies::count::Count;
-use tallies::failure::{Failure, Part};
+use tallies::failure::{Failure, Finding, Part};
 use tallies::patterns::{fill, keeps, part, part_mut};
 use tallies::tally::Tally;
 
@@ -27,7 +30,7 @@ pub struct SheetTrial<'a> {
 struct Call {
     part: Part,
     lent: usize,
-    wanted: Drawing,
+    wanted: Said,
 }
 
 // The bytes of so many records.
@@ -35,7 +38,102 @@ fn film_need(records: usize) -> usize {
     records.saturating_mul(5)
 }
 
-// The film that is lent, and the points of its wires.
+// Fails where the drawer does not say what is wanted, or changes the film behind the records that it is to write.
+fn try_call(film: &mut [u8], trial: &mut SheetTrial, call: Call) -> Result<(), Finding> {
+    let film = part_mut(film, call.lent);
+    fill(film, trial.seed);
+    let said = film::drawer::draw(trial.sheet, film);
+    trial.tally.count_drawn(call.wanted);
+    call.part.says(said, call.wanted)?;
+    let written = match call.wanted.number {
+        0 => film_need(call.wanted.place),
+        _ => 0,
+    };
+    call.part.holds(keeps(film, written, trial.seed))
+}
+
+// What is wrong where the drawer has to refuse a sheet with an answer, and to leave the film as it was, however long it is.
+pub fn refusal_fault(film: &mut [u8], trial: &mut SheetTrial, wanted: Said) -> Result<(), Finding> {
+    let call = Call {
+        part: Part::Refusal,
+        lent: trial.seed % 97,
+        wanted,
+    };
+    try_call(film, trial, call)
+}
+
+// Fails where a film one byte short does not get 21 or is changed; tried on every fourth sheet that has records.
+fn try_short(film: &mut [u8], trial: &mut SheetTrial, need: usize) -> Result<(), Finding> {
+    if need == 0 || trial.seed / 16 % 4 != 0 {
+        return Ok(());
+    }
+    trial.tally.count(Count::ShortFilms);
+    let call = Call {
+        part: Part::Refusal,
+        lent: need - 1,
+        wanted: Said {
+            number: 21,
+            place: 0,
+        },
+    };
+    try_call(film, trial, call)
+}
+
+// Fails where the film breaks the wire rules, or does not show the very wires of the sheet.
+fn try_wires(
+    film: &[u8],
+    points: &mut LentFilm,
+    trial: &mut SheetTrial,
+    nodes: &[Node],
+    streets: Streets,
+) -> Result<(), Finding> {
+    let Ok(count) = points.count_points(film, nodes, streets) else {
+        return Err(Part::Wires.fails());
+    };
+    trial.tally.count_film(film.len() / 5, count);
+    Part::Wires.holds(shows_wires(points, nodes, streets))
+}
+
+// What is lent for the trial of a sheet's film: the film, and the columns of its points and the places of a walk on them, of which `secondfilm` says how many there have
+// to be.
+#[derive(Drop)]
+pub struct LentFilms<'a> {
+    pub film: &'a mut [u8],
+    pub columns: &'a mut [[Point; LEVELS]],
+    pub places: &'a mut [Place],
+}
+
+// What is wrong with the film of a sheet without a fault, which has these nodes and so many nets, if anything is.
+pub fn drawing_fault(
+    lent: LentFilms,
+    trial: &mut SheetTrial,
+    nodes: &[Node],
+    streets: Streets,
+    nets: usize,
+) -> Result<(), Finding> {
+    let LentFilms {
+        film,
+        columns,
+        places,
+    } = lent;
+    let records = records(nodes, streets, nets);
+    let need = film_need(records);
+    try_short(film, trial, need)?;
+    let call = Call {
+        part: Part::Drawer,
+        lent: need.saturating_add(trial.seed % 9),
+        wanted: Said {
+            number: 0,
+            place: records,
+        },
+    };
+    try_call(film, trial, call)?;
+    let mut points = LentFilm::new(columns, places, nodes.len());
+    try_wires(part(film, need), &mut points, trial, nodes, streets)?;
+    Ok(())
+}
+
+// The same in memory of their own.
 #[derive(Drop)]
 pub struct FilmTrials {
     film: Vec<u8>,
@@ -51,45 +149,14 @@ impl FilmTrials {
         })
     }
 
-    // Fails where the drawer does not say what is wanted, or changes the film behind the records that it is to write.
-    fn try_call(&mut self, trial: &mut SheetTrial, call: Call) -> Result<(), Failure> {
-        let film = part_mut(&mut self.film, call.lent);
-        fill(film, trial.seed);
-        let said = film::drawer::draw(trial.sheet, film);
-        trial.tally.count_drawn(call.wanted);
-        call.part.says(said, call.wanted)?;
-        let written = film_need(call.wanted.unwrap_or(0));
-        call.part.holds(keeps(film, written, trial.seed))
-    }
-
-    // Fails where a film one byte short does not get 21 or is changed; tried on every fourth sheet that has records.
-    fn try_short(&mut self, trial: &mut SheetTrial, need: usize) -> Result<(), Failure> {
-        if need == 0 || trial.seed / 16 % 4 != 0 {
-            return Ok(());
-        }
-        trial.tally.count(Count::ShortFilms);
-        let call = Call {
-            part: Part::Refusal,
-            lent: need - 1,
-            wanted: Err(DrawError::FilmShort),
-        };
-        self.try_call(trial, call)
-    }
-
-    // Fails where the film breaks the wire rules, or does not show the very wires of the sheet.
-    fn try_wires(
-        &mut self,
-        tally: &mut Tally,
-        sheet: &Placing,
-        records: usize,
-    ) -> Result<(), Failure> {
-        let film = part(&self.film, film_need(records));
-        match self.points.count_points(film, sheet) {
-            Ok(points) => tally.count_film(records, points),
-            Err(FilmError::Broken) => return Err(Part::Wires.fails()),
-            Err(FilmError::Memory(error)) => return Err(error.into()),
-        }
-        Part::Wires.holds(shows(&mut self.points, sheet))
+    // Lends what the trials of a sheet of so many nodes need.
+    pub fn lent(&mut self, nodes: usize) -> Result<LentFilms<'_>, AllocError> {
+        let (columns, places) = self.points.room(nodes)?;
+        Ok(LentFilms {
+            film: &mut self.film,
+            columns,
+            places,
+        })
     }
 
     // Tries the film of a sheet without a fault, which has so many nets.
@@ -99,25 +166,12 @@ impl FilmTrials {
         sheet: &Placing,
         nets: usize,
     ) -> Result<(), Failure> {
-        let records = record_count(sheet, nets);
-        let need = film_need(records);
-        self.try_short(trial, need)?;
-        let call = Call {
-            part: Part::Drawer,
-            lent: need.saturating_add(trial.seed % 9),
-            wanted: Ok(records),
-        };
-        self.try_call(trial, call)?;
-        self.try_wires(trial.tally, sheet, records)
+        let lent = self.lent(sheet.nodes.len())?;
+        Ok(drawing_fault(lent, trial, &sheet.nodes, sheet.streets, nets)?)
     }
 
-    // Tries that the drawer refuses a sheet as it has to, and leaves the film as it was, however long it is.
-    pub fn try_refused(&mut self, trial: &mut SheetTrial, fault: Fault) -> Result<(), Failure> {
-        let call = Call {
-            part: Part::Refusal,
-            lent: trial.seed % 97,
-            wanted: Err(DrawError::Unfit(fault)),
-        };
-        self.try_call(trial, call)
+    // Tries that the drawer refuses a sheet with an answer, and leaves the film as it was, however long it is.
+    pub fn try_refused(&mut self, trial: &mut SheetTrial, wanted: Said) -> Result<(), Failure> {
+        Ok(refusal_fault(&mut self.film, trial, wanted)?)
     }
 }

@@ -88,33 +88,62 @@ pub fn position(lot: &mut Generator, limits: Option<Streets>, count: usize) -> u
     from.saturating_add(lot.draw(to.saturating_sub(from)))
 }
 
-// A label that no node has yet; none where all are used.
-fn fresh_label(lot: &mut Generator, nodes: &[Node]) -> Option<u8> {
-    let start = lot.draw(LABELS);
-    (0..LABELS)
-        .map(|k| (start.wrapping_add(k) % LABELS) as u8)
-        .find(|label| nodes.iter().all(|node| node.net != Some(*label)))
+// The labels that nets of a row have, and how many nets have begun.
+#[derive(Drop)]
+struct Labels {
+    used: [bool; 256],
+    begun: usize,
 }
 
-// A row that is being made: its nodes so far, and the order of the nets that are open after them.
+impl Labels {
+    // No net has begun.
+    fn new() -> Labels {
+        Labels {
+            used: [false; 256],
+            begun: 0,
+        }
+    }
+
+    // The labels of these nodes.
+    fn of(nodes: &[Node]) -> Labels {
+        let mut labels = Labels::new();
+        for node in nodes {
+            labels.used[usize::from(node.label())] = true;
+        }
+        labels
+    }
+
+    // Whether as many nets have begun as there are labels.
+    fn is_used_up(&self) -> bool {
+        LABELS <= self.begun
+    }
+
+    // A label that no net has yet, for one that begins; none where all are used.
+    fn take(&mut self, lot: &mut Generator) -> Option<u8> {
+        let start = lot.draw(LABELS);
+        self.begun = self.begun.saturating_add(1);
+        let label = (0..LABELS)
+            .map(|k| (start.wrapping_add(k) % LABELS) as u8)
+            .find(|label| !self.used[usize::from(*label)])?;
+        self.used[usize::from(label)] = true;
+        Some(label)
+    }
+}
+
+// A row that is being made: how many nodes it has so far, the labels of its nets, and the order of the nets that are open after them.
 #[derive(Drop)]
 struct Draft<'a> {
     lot: &'a mut Generator,
     style: Style,
-    nodes: Vec<Node>,
+    made: usize,
+    labels: Labels,
     order: Order,
 }
 
 impl Draft<'_> {
     // How many nodes are to come.
     fn left(&self) -> usize {
-        self.style.plan.count.saturating_sub(self.nodes.len())
-    }
-
-    // Whether as many nets have begun as there are labels.
-    fn is_used_up(&self) -> bool {
-        let firsts = self.nodes.iter().filter(|node| node.kind == Kind::First);
-        LABELS <= firsts.count()
+        self.style.plan.count.saturating_sub(self.made)
     }
 
     // Whether the next node is a blank, by lot: a share of sixteen are to be, where every open net can still end. So is a last node that finds no net open.
@@ -154,8 +183,8 @@ impl Draft<'_> {
     // Opens a net if that can be: every open net has to end.
     fn opening(&self) -> Kind {
         let open = self.order.open();
-        let cap = self.style.cap(self.nodes.len());
-        if cap <= open || self.left() < open.saturating_add(2) || self.is_used_up() {
+        let cap = self.style.cap(self.made);
+        if cap <= open || self.left() < open.saturating_add(2) || self.labels.is_used_up() {
             Kind::Inner
         } else {
             Kind::First
@@ -164,64 +193,78 @@ impl Draft<'_> {
 
     // Ends a net if that can be: a single last node could not be of any net, and with no label left no net could follow.
     fn ending(&self) -> Kind {
-        if 1 < self.order.open() || (self.left() != 2 && !self.is_used_up()) {
+        if 1 < self.order.open() || (self.left() != 2 && !self.labels.is_used_up()) {
             Kind::Last
         } else {
             Kind::Inner
         }
     }
 
-    // Adds a node of a kind, at a position by lot.
-    fn add(&mut self, kind: Kind) -> Result<(), AllocError> {
+    // A node of a kind, at a position by lot.
+    fn node(&mut self, kind: Kind) -> Node {
         let open = self.order.open();
         let choices = match kind {
             Kind::First | Kind::Blank => open.saturating_add(1),
             Kind::Inner | Kind::Last => open,
         };
-        let limits = self.style.limits(self.nodes.len());
+        let limits = self.style.limits(self.made);
         let mut node = Node::new(kind, position(self.lot, limits, choices));
         let begins = match kind {
-            Kind::First => fresh_label(self.lot, &self.nodes),
+            Kind::First => self.labels.take(self.lot),
             _ => None,
         };
         node.net = self.order.pass(&node, begins);
-        self.nodes.push(node)?;
-        Ok(())
+        node
     }
 
-    // Adds the next node.
-    fn add_next(&mut self) -> Result<(), AllocError> {
+    // The next node.
+    fn next(&mut self) -> Node {
         let kind = if self.is_blank() {
             Kind::Blank
         } else {
             self.kind()
         };
-        self.add(kind)
+        let node = self.node(kind);
+        self.made = self.made.saturating_add(1);
+        node
     }
 }
 
-// Makes a row with no lone label: until a node it follows an order that meets the limits, then any net may be touched. The allocator stands beside the lot, as std has it
-// beside what it makes: a lot that kept it would be a generator of rows and not of numbers.
-pub fn draw_row(alloc: Global, lot: &mut Generator, plan: Plan) -> Result<Placing, AllocError> {
+// Makes a row with no lone label of so many nodes as are lent: until a node it follows an order that meets the limits, then any net may be touched. The plan's count is theirs.
+pub fn make(lot: &mut Generator, plan: Plan, nodes: &mut [Node]) {
     let bits = (lot.number() >> 16) as usize;
+    let count = nodes.len();
     let mut draft = Draft {
         lot,
-        style: Style::new(bits, plan),
-        nodes: Vec::new(alloc),
+        style: Style::new(bits, Plan { count, ..plan }),
+        made: 0,
+        labels: Labels::new(),
         order: Order::new(),
     };
-    for _ in 0..plan.count {
-        draft.add_next()?;
+    for node in nodes.iter_mut() {
+        *node = draft.next();
     }
+}
+
+// The nodes of a plan before they are made, in memory of their own.
+pub fn blank_row(alloc: Global, plan: Plan) -> Result<Placing, AllocError> {
     Ok(Placing {
         streets: plan.streets,
-        nodes: draft.nodes,
+        nodes: vec![in alloc; Node::new(Kind::Blank, 0); plan.count]?,
     })
+}
+
+// Makes such a row of the plan's count, in memory of its own. The allocator stands beside the lot, as std has it beside what it makes: a lot that kept it would be a
+// generator of rows and not of numbers.
+pub fn draw_row(alloc: Global, lot: &mut Generator, plan: Plan) -> Result<Placing, AllocError> {
+    let mut placing = blank_row(alloc, plan)?;
+    make(lot, plan, &mut placing.nodes);
+    Ok(placing)
 }
 
 // Gives one node a label that no other has.
 pub fn make_lone(lot: &mut Generator, placing: &mut Placing) {
-    let label = fresh_label(lot, &placing.nodes);
+    let label = Labels::of(&placing.nodes).take(lot);
     let i = lot.draw(placing.nodes.len());
     if let Some(node) = placing.nodes.get_mut(i) {
         node.net = label;

@@ -1,12 +1,14 @@
 // Random sheets: of a placing by lot, which need not be the first, with any numbers of wires above its blanks; and most of them damaged. The lot stands beside what it changes:
 // it goes on to the next sheet, and the placing does not.
 use crate::generator::Generator;
-use crate::rows::{Plan, draw_row, position};
-use secondfilm::sheets::packed;
+use crate::rows::{Plan, blank_row, make, position};
+use secondfilm::sheets::{pack_nodes, sheet_need};
 use secondrouter::nets::{Kind, Node};
-use secondrouter::placing::Placing;
 use secondrouter::streets::Streets;
 use std::alloc::{AllocError, Global};
+
+// How many nodes a crowded sheet has.
+const CROWDED: usize = 512;
 
 // What is wrong with a node of a sheet, before that is packed.
 #[derive(Clone, Copy)]
@@ -84,12 +86,6 @@ fn spoil_node(lot: &mut Generator, nodes: &mut [Node], damage: Option<Damage>) {
     }
 }
 
-// Changes the length that the sheet is given.
-fn spoil_length(lot: &mut Generator, sheet: &mut Vec<u8>) -> Result<(), AllocError> {
-    let len = lot.draw(sheet.len().saturating_add(4));
-    sheet.resize(len, 0)
-}
-
 // One of the four kinds.
 fn any_kind(lot: &mut Generator) -> Kind {
     let number = lot.draw(4);
@@ -116,18 +112,42 @@ pub struct Drawn {
     pub sheet: Vec<u8>,
 }
 
-// Makes a row and its sheet, and damages that in nine cases of sixteen.
-pub fn draw_sheet(alloc: Global, lot: &mut Generator, plan: Plan) -> Result<Drawn, AllocError> {
+// How many bytes the sheet of so many nodes is given at the most: three more than it has.
+pub fn most_bytes(nodes: usize) -> usize {
+    sheet_need(nodes).saturating_add(3)
+}
+
+// The first bytes, or all where there are fewer.
+fn first(sheet: &mut [u8], count: usize) -> &mut [u8] {
+    let end = count.min(sheet.len());
+    &mut sheet[..end]
+}
+
+// Makes a row of so many nodes as are lent, and its sheet, damages that in nine cases of sixteen, and gives the sheet's length. So many bytes are lent as `most_bytes` says;
+// what stands behind the sheet is 0.
+pub fn make_sheet(lot: &mut Generator, plan: Plan, nodes: &mut [Node], sheet: &mut [u8]) -> usize {
     let damage = Damage::by_lot(lot);
-    let mut placing = draw_row(alloc, lot, plan)?;
-    let row = placing.row()?;
-    spoil_node(lot, &mut placing.nodes, damage);
-    let mut sheet = packed(&placing)?;
+    make(lot, plan, nodes);
+    spoil_node(lot, nodes, damage);
+    let need = sheet_need(nodes.len());
+    sheet.fill(0);
+    let packed = first(sheet, need);
+    pack_nodes(nodes, plan.streets, packed);
     match damage {
-        Some(Damage::Bits(damage)) => damage.spoil(lot, &mut sheet),
-        Some(Damage::Length) => spoil_length(lot, &mut sheet)?,
+        Some(Damage::Bits(damage)) => damage.spoil(lot, packed),
+        Some(Damage::Length) => return lot.draw(need.saturating_add(4)),
         Some(Damage::Node(_)) | None => {}
     }
+    need
+}
+
+// Makes a row and its sheet in memory of their own, and damages that in nine cases of sixteen.
+pub fn draw_sheet(alloc: Global, lot: &mut Generator, plan: Plan) -> Result<Drawn, AllocError> {
+    let mut placing = blank_row(alloc, plan)?;
+    let mut sheet = vec![in alloc; 0; most_bytes(plan.count)]?;
+    let len = make_sheet(lot, plan, &mut placing.nodes, &mut sheet);
+    sheet.truncate(len);
+    let row = placing.row()?;
     Ok(Drawn { row, sheet })
 }
 
@@ -142,53 +162,61 @@ fn begins(lot: &mut Generator, open: usize, left: usize, tracks: usize) -> bool 
     lot.draw(2) == 0
 }
 
-// Adds nets of two nodes: an even number of nodes.
-fn add_pairs(lot: &mut Generator, placing: &mut Placing, count: usize) -> Result<(), AllocError> {
-    let streets = placing.streets;
+// Makes nets of two nodes: an even number of nodes.
+fn make_pairs(lot: &mut Generator, streets: Streets, nodes: &mut [Node]) {
     let mut open: usize = 0;
-    for left in (1..=count).rev() {
+    let mut left = nodes.len();
+    for node in nodes.iter_mut() {
         if begins(lot, open, left, streets.tracks()) {
             open = open.saturating_add(1);
-            let position = position(lot, Some(streets), open);
-            placing.nodes.push(Node::new(Kind::First, position))?;
+            *node = Node::new(Kind::First, position(lot, Some(streets), open));
         } else {
-            let position = position(lot, Some(streets), open);
-            placing.nodes.push(Node::new(Kind::Last, position))?;
+            *node = Node::new(Kind::Last, position(lot, Some(streets), open));
             open = open.saturating_sub(1);
         }
+        left = left.saturating_sub(1);
     }
-    Ok(())
 }
 
-// The nodes of a crowded sheet: 256 nets of two, or 255 between two blanks.
-fn crowd(lot: &mut Generator, placing: &mut Placing, has_blanks: bool) -> Result<(), AllocError> {
-    if !has_blanks {
-        return add_pairs(lot, placing, 512);
+// Makes a sheet of so many nodes as are lent, an even number, in nets of two, or with two fewer between two blanks; damages a node in five cases of sixteen; and gives the
+// sheet's length. So many bytes are lent as `sheet_need` says.
+pub fn make_crowded(
+    lot: &mut Generator,
+    streets: Streets,
+    has_blanks: bool,
+    nodes: &mut [Node],
+    sheet: &mut [u8],
+) -> usize {
+    let blanks = usize::from(has_blanks);
+    let end = nodes.len().saturating_sub(blanks);
+    nodes.fill(Node::new(Kind::Blank, 0));
+    if let Some(nodes) = nodes.get_mut(blanks..end) {
+        make_pairs(lot, streets, nodes);
     }
-    placing.nodes.push(Node::new(Kind::Blank, 0))?;
-    add_pairs(lot, placing, 510)?;
-    placing.nodes.push(Node::new(Kind::Blank, 0))?;
-    Ok(())
+    let damage = Damage::by_lot(lot);
+    spoil_node(lot, nodes, damage);
+    let need = sheet_need(nodes.len());
+    pack_nodes(nodes, streets, first(sheet, need));
+    need
 }
 
-// Makes a sheet of 512 nodes in nets of two: 256 nets, or 255 between two blanks. Five of sixteen are damaged at a node.
+// Makes a sheet of 512 nodes in nets of two, in memory of its own: 256 nets, or 255 between two blanks. Five of sixteen are damaged at a node.
 pub fn draw_crowded(
     alloc: Global,
     lot: &mut Generator,
     streets: Streets,
     has_blanks: bool,
 ) -> Result<Vec<u8>, AllocError> {
-    let nodes = Vec::new(alloc);
-    let mut placing = Placing { streets, nodes };
-    crowd(lot, &mut placing, has_blanks)?;
-    let damage = Damage::by_lot(lot);
-    spoil_node(lot, &mut placing.nodes, damage);
-    packed(&placing)
+    let mut nodes = vec![in alloc; Node::new(Kind::Blank, 0); CROWDED]?;
+    let mut sheet = vec![in alloc; 0; sheet_need(CROWDED)]?;
+    make_crowded(lot, streets, has_blanks, &mut nodes, &mut sheet);
+    Ok(sheet)
 }
 
 #[cfg(test)]
 mod tests {
     use super::*;
+    use crate::rows::draw_row;
 
     #[test]
     fn rows_and_sheets_are_drawn(rt: HostRuntime) {
@@ -204,5 +232,19 @@ mod tests {
         assert!(rt; drawn.is_ok_and(|drawn| drawn.row.len() == 9));
         let crowded = draw_crowded(rt.alloc(), &mut lot, plan.streets, true);
         assert!(rt; crowded.is_ok_and(|sheet| sheet.len() == 386));
+    }
+
+    #[test]
+    fn lent_memory_serves_as_well(rt: HostRuntime) {
+        let plan = Plan {
+            streets: Streets { upper: 2, lower: 1 },
+            count: 9,
+            share: Some(4),
+        };
+        let drawn = draw_sheet(rt.alloc(), &mut Generator::new(20611), plan);
+        let mut nodes = [Node::new(Kind::Blank, 0); 9];
+        let mut sheet = [0xff; 12];
+        let len = make_sheet(&mut Generator::new(20611), plan, &mut nodes, &mut sheet);
+        assert!(rt; drawn.is_ok_and(|drawn| Some(drawn.sheet.as_slice()) == sheet.get(..len)));
     }
 }

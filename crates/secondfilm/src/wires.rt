@@ -6,7 +6,7 @@ use secondrouter::streets::Streets;
 use std::alloc::{AllocError, Global};
 use std::mem;
 
-const LEVELS: usize = 9;
+pub const LEVELS: usize = 9;
 
 // Why a film is not one of a placing's. `JudgeError` and `Failure` have a cause beside `Memory` too: in one generic enum each cause would be matched inside
 // `Cause(..)`, and this one would be `Cause(())`.
@@ -40,7 +40,7 @@ fn holds(rule: bool) -> Result<(), Broken> {
 // What is kept of a point of the film: at first that no record comes to it. Its steps are two flags and no array by step: the cut asks for
 // those to the right alone.
 #[derive(Clone, Copy, Default)]
-struct Point {
+pub struct Point {
     // The net that has it.
     net: Option<u8>,
     // A record goes on to the right.
@@ -122,20 +122,45 @@ fn is_cut_twice(column: &[Point]) -> bool {
     })
 }
 
-// The points of a film, column by column. They keep their memory from one film to the next.
-#[derive(Drop)]
-pub struct Film {
-    columns: Vec<[Point; LEVELS]>,
-    // Places that the walk came to and has not left yet.
-    open: Vec<Place>,
+// How many columns the film of so many nodes has: from the first pin's to the last one's.
+pub fn columns_need(nodes: usize) -> usize {
+    column_of(nodes.saturating_sub(1)).saturating_add(1)
 }
 
-impl Film {
-    // No points yet.
-    pub fn new(alloc: Global) -> Film {
-        Film {
-            columns: Vec::new(alloc),
-            open: Vec::new(alloc),
+// How many places its walk needs: one for each point.
+pub fn places_need(nodes: usize) -> usize {
+    columns_need(nodes).saturating_mul(LEVELS)
+}
+
+// Whether no step is left in some columns.
+fn has_no_step(columns: &[[Point; LEVELS]]) -> bool {
+    columns.iter().all(|column| column.iter().all(|point| !point.right && !point.up))
+}
+
+// The points of a film, column by column, in memory that is lent.
+#[derive(Drop)]
+pub struct LentFilm<'a> {
+    columns: &'a mut [[Point; LEVELS]],
+    // Places that the walk came to and has not left yet, and how many these are.
+    open: &'a mut [Place],
+    height: usize,
+}
+
+impl<'a> LentFilm<'a> {
+    // The film of so many nodes, with no record, in the first of the columns. Where fewer columns or places are lent than `columns_need` and `places_need` say, it counts
+    // as broken.
+    pub fn new(
+        columns: &'a mut [[Point; LEVELS]],
+        open: &'a mut [Place],
+        nodes: usize,
+    ) -> LentFilm<'a> {
+        let width = columns_need(nodes).min(columns.len());
+        let columns = &mut columns[..width];
+        columns.fill([Point::default(); LEVELS]);
+        LentFilm {
+            columns,
+            open,
+            height: 0,
         }
     }
 
@@ -179,13 +204,27 @@ impl Film {
         Ok(())
     }
 
-    // Comes to a place, once, and lists it.
-    fn reach(&mut self, place: Place) -> Result<(), FilmError> {
-        let point = self.point_mut(place)?;
-        if !mem::replace(&mut point.reached, true) {
-            self.open.push(place).map_err(AllocError::from)?;
-        }
+    // Lists a place.
+    fn list(&mut self, place: Place) -> Result<(), Broken> {
+        *self.open.get_mut(self.height).ok_or(Broken)? = place;
+        self.height = self.height.saturating_add(1);
         Ok(())
+    }
+
+    // The place that was listed last, which is taken off the list.
+    fn leave(&mut self) -> Option<Place> {
+        let last = self.height.checked_sub(1)?;
+        self.height = last;
+        self.open.get(last).copied()
+    }
+
+    // Comes to a place, once, and lists it.
+    fn reach(&mut self, place: Place) -> Result<(), Broken> {
+        let point = self.point_mut(place)?;
+        if mem::replace(&mut point.reached, true) {
+            return Ok(());
+        }
+        self.list(place)
     }
 
     // Whether a record has a step from a place.
@@ -194,7 +233,7 @@ impl Film {
     }
 
     // Comes to the places that such a step joins to this one.
-    fn spread(&mut self, place: Place, step: Step) -> Result<(), FilmError> {
+    fn spread(&mut self, place: Place, step: Step) -> Result<(), Broken> {
         if self.has(place, step) {
             self.reach(place.after(step, 1))?;
         }
@@ -205,8 +244,8 @@ impl Film {
     }
 
     // Comes to the pin of each net's first node.
-    fn start(&mut self, nodes: &[Node]) -> Result<(), FilmError> {
-        self.open.clear();
+    fn start(&mut self, nodes: &[Node]) -> Result<(), Broken> {
+        self.height = 0;
         for (i, node) in nodes.iter().enumerate() {
             if node.kind == Kind::First {
                 self.reach(pin(i))?;
@@ -217,10 +256,10 @@ impl Film {
 
     // Walks along records from the pins of first nodes. Each point is listed once, so there are no more turns than points; a
     // `while let` would need a measure that says so.
-    fn walk(&mut self, nodes: &[Node]) -> Result<(), FilmError> {
+    fn walk(&mut self, nodes: &[Node]) -> Result<(), Broken> {
         self.start(nodes)?;
         for _ in 0..self.columns.len().saturating_mul(LEVELS) {
-            let Some(place) = self.open.pop() else {
+            let Some(place) = self.leave() else {
                 break;
             };
             self.spread(place, Step::Right)?;
@@ -265,28 +304,82 @@ impl Film {
             .fold(0, usize::saturating_add)
     }
 
-    // Has the columns from the first of so many pins to the last, with no record.
-    fn clear(&mut self, nodes: usize) -> Result<(), AllocError> {
-        let last = column_of(nodes.saturating_sub(1));
-        self.columns.clear();
-        self.columns
-            .resize(last.saturating_add(1), [Point::default(); LEVELS])?;
-        Ok(())
-    }
-
-    // Tests all wire rules on a film's records of a placing, and gives how many points they have. A piece that joins no pin is a fault too. Blanks alone have no
-    // records and no points.
-    pub fn count_points(&mut self, film: &[u8], placing: &Placing) -> Result<usize, FilmError> {
-        self.clear(placing.nodes.len())?;
-        self.lay_all(film, placing.streets)?;
-        self.walk(&placing.nodes)?;
-        self.test_pins(&placing.nodes)?;
+    // Tests all wire rules on the records of nodes between two streets, and gives how many points they have. A piece that joins no pin is a fault too. Blanks alone have
+    // no records and no points.
+    pub fn count_points(
+        &mut self,
+        film: &[u8],
+        nodes: &[Node],
+        streets: Streets,
+    ) -> Result<usize, Broken> {
+        self.lay_all(film, streets)?;
+        self.walk(nodes)?;
+        self.test_pins(nodes)?;
         self.test_points()?;
         Ok(self.count())
     }
 
     // Whether no step is left.
     pub fn is_bare(&self) -> bool {
-        self.columns.iter().all(|column| column.iter().all(|point| !point.right && !point.up))
+        has_no_step(self.columns)
+    }
+}
+
+// The points of a film in memory of their own, which they keep from one film to the next.
+#[derive(Drop)]
+pub struct Film {
+    columns: Vec<[Point; LEVELS]>,
+    open: Vec<Place>,
+}
+
+impl Film {
+    // No points yet.
+    pub fn new(alloc: Global) -> Film {
+        Film {
+            columns: Vec::new(alloc),
+            open: Vec::new(alloc),
+        }
+    }
+
+    // The same points, lent.
+    pub fn lent(&mut self) -> LentFilm<'_> {
+        LentFilm {
+            columns: &mut self.columns,
+            open: &mut self.open,
+            height: 0,
+        }
+    }
+
+    // Has the memory of the film of so many nodes, and lends it.
+    pub fn room(
+        &mut self,
+        nodes: usize,
+    ) -> Result<(&mut [[Point; LEVELS]], &mut [Place]), AllocError> {
+        self.columns
+            .resize(columns_need(nodes), [Point::default(); LEVELS])?;
+        let need = places_need(nodes);
+        if self.open.len() < need {
+            let column = 0;
+            let level = 0;
+            self.open.resize(need, Place { column, level })?;
+        }
+        Ok((&mut self.columns, &mut self.open))
+    }
+
+    // Takes the steps of a run away.
+    pub fn take(&mut self, run: Run) -> Result<(), Broken> {
+        self.lent().take(run)
+    }
+
+    // Tests all wire rules on a film's records of a placing, and gives how many points they have.
+    pub fn count_points(&mut self, film: &[u8], placing: &Placing) -> Result<usize, FilmError> {
+        let nodes: &[Node] = &placing.nodes;
+        let (columns, places) = self.room(nodes.len())?;
+        Ok(LentFilm::new(columns, places, nodes.len()).count_points(film, nodes, placing.streets)?)
+    }
+
+    // Whether no step is left.
+    pub fn is_bare(&self) -> bool {
+        has_no_step(&self.columns)
     }
 }

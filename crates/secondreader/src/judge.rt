@@ -10,6 +10,9 @@ use std::alloc::{AllocError, Global};
 // The most nets that the reader takes.
 const MOST_NETS: usize = 255;
 
+// The most nodes that a sheet has.
+pub const MOST_NODES: usize = 512;
+
 // Why a sheet is refused. A node that is at fault counts from 1, as in the documents.
 #[derive(Clone, Copy, PartialEq, Eq, Debug)]
 pub enum Fault {
@@ -33,6 +36,24 @@ pub enum Fault {
     Padding,
     // More nets than the reader takes.
     Nets,
+}
+
+impl Fault {
+    // The number and the place of the answer that it is, as the documents have them: place 0 where no node is at fault.
+    pub fn answer(self) -> (u32, usize) {
+        match self {
+            Fault::Count => (11, 0),
+            Fault::Streets => (12, 0),
+            Fault::Length => (13, 0),
+            Fault::Position(place) => (16, place),
+            Fault::Upper(place) => (17, place),
+            Fault::Open(place) => (18, place),
+            Fault::Padding => (19, 0),
+            Fault::Nets => (23, 0),
+            Fault::Lower(place) => (30, place),
+            Fault::Tracks(place) => (31, place),
+        }
+    }
 }
 
 // The first two bytes of a sheet.
@@ -71,7 +92,7 @@ pub fn node_count(sheet: &[u8]) -> usize {
 // The head of a sheet; or the first of 11, 12 and 13 that is to be said of it.
 pub fn read_head(sheet: &[u8]) -> Result<Head, Fault> {
     let nodes = node_count(sheet);
-    if sheet.len() < 2 || !(2..=512).contains(&nodes) {
+    if sheet.len() < 2 || !(2..=MOST_NODES).contains(&nodes) {
         return Err(Fault::Count);
     }
     // Ku and Kl stand side by side as the number of the pair: two fields apart did not prove, since no contract says that a field of so few bits fits a byte.
@@ -92,12 +113,20 @@ fn take_node(fields: &mut Fields) -> Node {
     Node::new(kind, fields.take(4))
 }
 
-// The kinds, positions and open nets of so many nodes of a sheet, as its bits have them.
-pub fn unpack(alloc: Global, sheet: &[u8], count: usize) -> Result<Vec<Node>, AllocError> {
+// Writes the kinds, positions and open nets of a sheet's first nodes, as its bits have them.
+pub fn unpack_nodes(sheet: &[u8], nodes: &mut [Node]) {
     let mut fields = Fields::new(sheet);
     fields.take(16);
-    let mut nodes: Vec<Node> = (0..count).map(|_| take_node(&mut fields)).collect(alloc)?;
-    count_open(&mut nodes);
+    for node in nodes.iter_mut() {
+        *node = take_node(&mut fields);
+    }
+    count_open(nodes);
+}
+
+// So many nodes of a sheet, in memory of their own.
+pub fn unpack(alloc: Global, sheet: &[u8], count: usize) -> Result<Vec<Node>, AllocError> {
+    let mut nodes = vec![in alloc; Node::new(Kind::Blank, 0); count]?;
+    unpack_nodes(sheet, &mut nodes);
     Ok(nodes)
 }
 
@@ -145,12 +174,26 @@ fn test_end(sheet: &[u8], nodes: &[Node]) -> Result<(), Fault> {
     Ok(())
 }
 
-// The streets and nodes of a sheet, which have no nets yet; or its first fault, 14, 21 and 23 aside.
+// Writes the nodes of a sheet with this head; or says the first fault behind that.
+fn judge_nodes(sheet: &[u8], streets: Streets, nodes: &mut [Node]) -> Result<(), Fault> {
+    unpack_nodes(sheet, nodes);
+    test_nodes(nodes, streets)?;
+    test_end(sheet, nodes)
+}
+
+// The head of a sheet, whose nodes, which have no nets yet, are then the first of those that are lent; or its first fault, 14, 21 and 23 aside.
+pub fn first_fault(sheet: &[u8], nodes: &mut [Node; MOST_NODES]) -> Result<Head, Fault> {
+    let head = read_head(sheet)?;
+    let count = head.nodes.min(MOST_NODES);
+    judge_nodes(sheet, head.streets, &mut nodes[..count])?;
+    Ok(head)
+}
+
+// The streets and nodes of a sheet, which have no nets yet, in memory of their own; or its first fault, 14, 21 and 23 aside.
 pub fn judge(alloc: Global, sheet: &[u8]) -> Result<Placing, JudgeError> {
     let Head { streets, nodes } = read_head(sheet)?;
-    let nodes = unpack(alloc, sheet, nodes)?;
-    test_nodes(&nodes, streets)?;
-    test_end(sheet, &nodes)?;
+    let mut nodes = vec![in alloc; Node::new(Kind::Blank, 0); nodes]?;
+    judge_nodes(sheet, streets, &mut nodes)?;
     Ok(Placing { streets, nodes })
 }
 

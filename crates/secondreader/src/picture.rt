@@ -2,9 +2,11 @@
 // record is a longest run, a film that shows them in as many records has the very records.
 use secondfilm::gaps::{Gap, level};
 use secondfilm::records::{AXIS, Run};
-use secondfilm::wires::{Broken, Film, column_of};
+use secondfilm::wires::{Broken, Film, LentFilm, column_of};
+use secondrouter::nets::Node;
 use secondrouter::orders::Order;
 use secondrouter::placing::Placing;
+use secondrouter::streets::Streets;
 
 // The columns of a gap.
 const WIDTH: usize = 16;
@@ -18,7 +20,7 @@ struct Wire<'a> {
 }
 
 // Takes away a wire in the gap that begins at a column. One that stays has no vertical, and its horizontals are one of all columns.
-fn take_wire(film: &mut Film, wire: Wire, column: usize) -> Result<(), Broken> {
+fn take_wire(film: &mut LentFilm, wire: Wire, column: usize) -> Result<(), Broken> {
     let Wire { gap, position, net } = wire;
     let turn = gap.turn(position).unwrap_or(0);
     let middle = column.saturating_add(turn);
@@ -30,7 +32,7 @@ fn take_wire(film: &mut Film, wire: Wire, column: usize) -> Result<(), Broken> {
 }
 
 // Takes away the wires of the gap that begins at a column, whose nets stand in this order. By position, since the gap's levels and turns are asked by it.
-fn take_gap(film: &mut Film, gap: Gap, column: usize, order: &Order) -> Result<(), Broken> {
+fn take_gap(film: &mut LentFilm, gap: Gap, column: usize, order: &Order) -> Result<(), Broken> {
     for position in 0..gap.wires() {
         let net = order.net(position).ok_or(Broken)?;
         take_wire(film, Wire { gap, position, net }, column)?;
@@ -39,10 +41,10 @@ fn take_gap(film: &mut Film, gap: Gap, column: usize, order: &Order) -> Result<(
 }
 
 // Takes away the stubs of all nodes; a blank has none.
-fn take_stubs(film: &mut Film, placing: &Placing) -> Result<(), Broken> {
-    for (i, node) in placing.nodes.iter().enumerate() {
+fn take_stubs(film: &mut LentFilm, nodes: &[Node], streets: Streets) -> Result<(), Broken> {
+    for (i, node) in nodes.iter().enumerate() {
         if let Some(net) = node.net {
-            let at = level(node, node.position, placing.streets);
+            let at = level(node, node.position, streets);
             film.take(Run::upright(net, column_of(i), AXIS, at))?;
         }
     }
@@ -50,27 +52,32 @@ fn take_stubs(film: &mut Film, placing: &Placing) -> Result<(), Broken> {
 }
 
 // Takes away the wires of all gaps.
-fn take_gaps(film: &mut Film, placing: &Placing) -> Result<(), Broken> {
+fn take_gaps(film: &mut LentFilm, nodes: &[Node], streets: Streets) -> Result<(), Broken> {
     let mut order = Order::new();
-    for (i, [before, after]) in placing.nodes.array_windows::<2>().enumerate() {
+    for (i, [before, after]) in nodes.array_windows::<2>().enumerate() {
         order.pass(before, before.net);
         let gap = Gap {
             before,
             after,
-            streets: placing.streets,
+            streets,
         };
         take_gap(film, gap, column_of(i), &order)?;
     }
     Ok(())
 }
 
-// Takes away all wires of a placing. The film is changed and the placing is not: a struct of both would be made in `shows` alone.
-fn take_all(film: &mut Film, placing: &Placing) -> Result<(), Broken> {
-    take_stubs(film, placing)?;
-    take_gaps(film, placing)
+// Takes away all wires of nodes between two streets.
+fn take_all(film: &mut LentFilm, nodes: &[Node], streets: Streets) -> Result<(), Broken> {
+    take_stubs(film, nodes, streets)?;
+    take_gaps(film, nodes, streets)
 }
 
-// Whether the records that were laid show the wires of the placing, and no others. Their steps are gone after.
+// Whether the records that were laid show the wires of the nodes, and no others. Their steps are gone after.
+pub fn shows_wires(film: &mut LentFilm, nodes: &[Node], streets: Streets) -> bool {
+    take_all(film, nodes, streets).is_ok() && film.is_bare()
+}
+
+// Whether they show the wires of a placing.
 pub fn shows(film: &mut Film, placing: &Placing) -> bool {
-    take_all(film, placing).is_ok() && film.is_bare()
+    shows_wires(&mut film.lent(), &placing.nodes, placing.streets)
 }

@@ -1,9 +1,12 @@
 // A specimen of document 01, two nets under one track in each street: its row is placed, and its sheet and film are read.
-use crate::judge::{judge, number_nets};
-use crate::picture::shows;
-use secondfilm::sheets::{pack, packed, record_count};
-use secondfilm::wires::Film;
-use secondrouter::nets::numbers_of;
+use crate::judge::{MOST_NODES, first_fault, judge, number_nets};
+use crate::picture::{shows, shows_wires};
+use secondfilm::order::in_order;
+use secondfilm::records::Place;
+use secondfilm::sheets::{pack, pack_nodes, packed, record_count};
+use secondfilm::wires::{Film, LEVELS, LentFilm, Point};
+use secondrouter::nets::{Kind, Node, numbers_of};
+use secondrouter::orders::Order;
 use secondrouter::placing::Placing;
 use secondrouter::streets::Streets;
 use secondrouter::{depth, layers};
@@ -54,4 +57,27 @@ fn nets_are_numbered(rt: HostRuntime) {
     let numbers = numbers_of(rt.alloc(), b"ab\xffab");
     let wanted = [Some(0), Some(1), None, Some(0), Some(1)];
     assert!(rt; numbers.is_ok_and(|numbers| numbers.as_slice() == wanted.as_slice()));
+}
+
+#[test]
+fn lent_memory_serves_as_well(rt: HostRuntime) {
+    let mut lent = [Node::new(Kind::Blank, 0); MOST_NODES];
+    assert!(rt;
+        first_fault(&SHEET, &mut lent).is_ok_and(|head| head.streets == STREETS && head.nodes == 4)
+    );
+    let nodes = &mut lent[..4];
+    assert!(rt; number_nets(nodes) == 2);
+    let mut columns = [[Point::default(); LEVELS]; 49];
+    let mut places = [Place {
+        column: 0,
+        level: 0,
+    }; 441];
+    let mut film = LentFilm::new(&mut columns, &mut places, 4);
+    assert!(rt; film.count_points(&FILM, nodes, STREETS) == Ok(72));
+    assert!(rt; shows_wires(&mut film, nodes, STREETS));
+    assert!(rt; in_order(&FILM, 4) && !in_order(&FILM, 5));
+    assert!(rt; layers::search(nodes, STREETS, &mut [Order::new(); 6], &mut [0; 4]).is_ok());
+    let mut sheet = [0xff; 5];
+    pack_nodes(nodes, STREETS, &mut sheet);
+    assert!(rt; sheet == SHEET);
 }

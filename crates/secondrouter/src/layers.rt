@@ -4,37 +4,56 @@ use crate::orders::Order;
 use crate::passage::Passage;
 use crate::placing::{PlaceError, Placing};
 use crate::streets::Streets;
-use std::alloc::{AllocError, Global};
-use std::mem;
 
-// Adds the orders that an order leads to across a node. Two orders lead to the same one only where a net comes out of them, so a layer is a list and no ordered set:
-// only last nodes need the test.
-fn give(passage: Passage, into: &mut Vec<Order>) -> Result<(), AllocError> {
-    for after in (0..=passage.node.open).filter_map(|position| passage.after(position)) {
-        if passage.node.kind != Kind::Last || !into.contains(&after) {
-            into.push(after)?;
-        }
-    }
-    Ok(())
+// A layer that is being made at the start of what is lent for it.
+#[derive(Drop)]
+struct Layer<'a> {
+    orders: &'a mut [Order],
+    count: usize,
 }
 
-// The layer that another one leads to across a node.
-fn across(
-    alloc: Global,
-    from: &[Order],
-    node: Node,
-    streets: Streets,
-) -> Result<Vec<Order>, AllocError> {
-    let mut into = Vec::new(alloc);
+impl Layer<'_> {
+    // Whether an order is in the layer.
+    fn has(&self, order: &Order) -> bool {
+        self.orders
+            .iter()
+            .take(self.count)
+            .any(|other| other == order)
+    }
+
+    // Adds an order; behind what is lent it is lost.
+    fn add(&mut self, order: Order) {
+        if let Some(free) = self.orders.get_mut(self.count) {
+            *free = order;
+            self.count = self.count.saturating_add(1);
+        }
+    }
+
+    // Adds the orders that an order leads to across a node. Two orders lead to the same one only where a net comes out of them, so a layer is a list and no ordered
+    // set: only last nodes need the test.
+    fn give(&mut self, passage: Passage) {
+        for after in (0..=passage.node.open).filter_map(|position| passage.after(position)) {
+            if passage.node.kind != Kind::Last || !self.has(&after) {
+                self.add(after);
+            }
+        }
+    }
+}
+
+// Makes the layer that another one leads to across a node, and gives how many orders it has.
+fn across(from: &[Order], node: Node, streets: Streets, into: &mut [Order]) -> usize {
+    let mut layer = Layer {
+        orders: into,
+        count: 0,
+    };
     for order in from {
-        let passage = Passage {
+        layer.give(Passage {
             order: *order,
             node,
             streets,
-        };
-        give(passage, &mut into)?;
+        });
     }
-    Ok(into)
+    layer.count
 }
 
 // What a node does where the row is gone through from its end: a last node opens its net, a first one closes it.
@@ -47,41 +66,76 @@ fn turned(node: &Node) -> Node {
     Node { kind, ..*node }
 }
 
-// The layer at an end of the row, where no net is open.
-fn at_end(alloc: Global) -> Result<Vec<Order>, AllocError> {
-    Ok(vec![in alloc; Order::new()]?)
+// Layers one behind another in memory that is lent: the last one begins and ends at these places.
+#[derive(Drop)]
+struct Layers<'a> {
+    orders: &'a mut [Order],
+    from: usize,
+    to: usize,
+}
+
+impl Layers<'_> {
+    // The layer at an end of the row, where no net is open.
+    fn new(orders: &mut [Order]) -> Layers<'_> {
+        let mut layers = Layers {
+            orders,
+            from: 0,
+            to: 0,
+        };
+        if let Some(first) = layers.orders.first_mut() {
+            *first = Order::new();
+            layers.to = 1;
+        }
+        layers
+    }
+
+    // Adds the layer that the last one leads to across a node; it is the last one then.
+    fn add(&mut self, node: Node, streets: Streets) {
+        if let Some((made, free)) = self.orders.split_at_mut_checked(self.to) {
+            let last = made.get(self.from..).unwrap_or(&[]);
+            let count = across(last, node, streets, free);
+            self.from = self.to;
+            self.to = self.to.saturating_add(count);
+        }
+    }
 }
 
 // Fails at the first node after which no order is left going forward.
-fn test_forward(placing: &Placing) -> Result<(), PlaceError> {
-    let alloc = *placing.nodes.allocator();
-    let mut layer = at_end(alloc)?;
-    for (i, node) in placing.nodes.iter().enumerate() {
-        layer = across(alloc, &layer, *node, placing.streets)?;
-        if layer.is_empty() {
-            return Err(PlaceError::Stuck(i));
+fn test_forward(nodes: &[Node], streets: Streets, orders: &mut [Order]) -> Result<(), usize> {
+    let mut layers = Layers::new(orders);
+    for (i, node) in nodes.iter().enumerate() {
+        layers.add(*node, streets);
+        if layers.from == layers.to {
+            return Err(i);
         }
     }
     Ok(())
 }
 
-// For each node, from the last one back, the orders after it from which the rest of the row can be completed.
-fn completed(placing: &Placing) -> Result<Vec<Vec<Order>>, AllocError> {
-    let alloc = *placing.nodes.allocator();
-    let mut layers = Vec::new(alloc);
-    let mut layer = at_end(alloc)?;
-    for node in placing.nodes.iter().rev() {
-        let before = across(alloc, &layer, turned(node), placing.streets)?;
-        layers.push(mem::replace(&mut layer, before))?;
+// Makes, from the last node back, the layers of the orders after each node from which the rest of the row can be completed, and writes where each begins. Gives where the
+// layer of the first node ends.
+fn complete(nodes: &[Node], streets: Streets, orders: &mut [Order], starts: &mut [usize]) -> usize {
+    let mut layers = Layers::new(orders);
+    for (node, start) in nodes.iter().rev().zip(starts.iter_mut()) {
+        *start = layers.from;
+        layers.add(turned(node), streets);
     }
-    Ok(layers)
+    layers.from
 }
 
-// Goes forward over such layers, always to the smallest position.
-fn choose_first(placing: &mut Placing, layers: &[Vec<Order>]) {
-    let streets = placing.streets;
+// Goes forward over such layers, of which the first node's ends at a place, always to the smallest position.
+fn choose_first(
+    nodes: &mut [Node],
+    streets: Streets,
+    orders: &[Order],
+    starts: &[usize],
+    end: usize,
+) {
     let mut order = Order::new();
-    for (node, next) in placing.nodes.iter_mut().zip(layers.iter().rev()) {
+    let mut to = end;
+    for (node, from) in nodes.iter_mut().zip(starts.iter().rev()) {
+        let next = orders.get(*from..to).unwrap_or(&[]);
+        to = *from;
         let passage = Passage {
             order,
             node: *node,
@@ -94,10 +148,45 @@ fn choose_first(placing: &mut Placing, layers: &[Vec<Order>]) {
     }
 }
 
-// A row's first placing; or which is the first node that no choice serves.
+// How many orders a layer has at the most where so many nets are open: none where these are more than the tracks.
+fn most_orders(open: usize, streets: Streets) -> usize {
+    if streets.tracks() < open {
+        return 0;
+    }
+    (1..=open).fold(1, usize::saturating_mul)
+}
+
+// How many orders the layers of a row have at the most.
+pub fn orders_need(nodes: &[Node], streets: Streets) -> usize {
+    nodes
+        .iter()
+        .map(|node| most_orders(node.open_after(), streets))
+        .fold(1, usize::saturating_add)
+}
+
+// Gives the nodes of a row the positions of its first placing; or says which is the first node that no choice serves. The layers are made in what is lent: `orders_need`
+// says how many orders they have, and each node has a start. With fewer the search would not be this one.
+pub fn search(
+    nodes: &mut [Node],
+    streets: Streets,
+    orders: &mut [Order],
+    starts: &mut [usize],
+) -> Result<(), usize> {
+    test_forward(nodes, streets, orders)?;
+    let used = nodes.len().min(starts.len());
+    let starts = &mut starts[..used];
+    let end = complete(nodes, streets, orders, starts);
+    choose_first(nodes, streets, orders, starts, end);
+    Ok(())
+}
+
+// A row's first placing, by layers in memory of their own; or which is the first node that no choice serves.
 pub fn place(mut placing: Placing) -> Result<Placing, PlaceError> {
-    test_forward(&placing)?;
-    let layers = completed(&placing)?;
-    choose_first(&mut placing, &layers);
+    let alloc = *placing.nodes.allocator();
+    let streets = placing.streets;
+    let need = orders_need(&placing.nodes, streets);
+    let mut orders = vec![in alloc; Order::new(); need]?;
+    let mut starts = vec![in alloc; 0; placing.nodes.len()]?;
+    search(&mut placing.nodes, streets, &mut orders, &mut starts).map_err(PlaceError::Stuck)?;
     Ok(placing)
 }

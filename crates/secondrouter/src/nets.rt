@@ -2,7 +2,6 @@
 // blank of request 1: it stands in no net.
 use crate::placing::PlaceError;
 use std::alloc::{AllocError, Global};
-use std::collections::BTreeMap;
 
 // The label of a blank, and what the reader writes there.
 pub const BLANK_LABEL: u8 = 255;
@@ -85,7 +84,7 @@ pub fn label_of(label: u8) -> Option<u8> {
 
 // The kind of node `i` of the row; none where the node has a net's label that stands there only, which is no kind. An error would be made here to be dropped in
 // `is_lone`.
-fn kind_of(row: &[u8], i: usize) -> Option<Kind> {
+pub fn kind_of(row: &[u8], i: usize) -> Option<Kind> {
     let (before, rest) = row.split_at_checked(i)?;
     let (label, after) = rest.split_first()?;
     if *label == BLANK_LABEL {
@@ -141,18 +140,41 @@ pub fn count_open(nodes: &mut [Node]) {
     }
 }
 
-// The number of a label's net, a new one where the label is new; none for a blank's, or where no number is left.
-fn number_of(numbers: &mut BTreeMap<u8, u8>, label: u8) -> Result<Option<u8>, AllocError> {
-    let (Some(net), Ok(next)) = (label_of(label), u8::try_from(numbers.len())) else {
-        return Ok(None);
-    };
-    Ok(Some(*numbers.entry(net)?.or_insert(next)))
+// The numbers of the nets that have begun: 0, 1, 2 in the order of their first nodes.
+#[derive(Drop)]
+struct Numbering {
+    // By label; none where the net has not begun.
+    of: [Option<u8>; 256],
+    nets: u8,
 }
 
-// The net's number of each node, 0, 1, 2 in the order of the nets' first nodes; none at a blank.
+impl Numbering {
+    // The number of a label's net, a new one where the label is new; none for a blank's.
+    fn number(&mut self, label: u8) -> Option<u8> {
+        let number = self.of.get_mut(usize::from(label_of(label)?))?;
+        if number.is_none() {
+            *number = Some(self.nets);
+            self.nets = self.nets.saturating_add(1);
+        }
+        *number
+    }
+}
+
+// Writes the net's number of each node, 0, 1, 2 in the order of the nets' first nodes, none at a blank; and gives how many nets there are.
+pub fn numbers(row: &[u8], numbers: &mut [Option<u8>]) -> usize {
+    let mut begun = Numbering {
+        of: [None; 256],
+        nets: 0,
+    };
+    for (label, number) in row.iter().zip(numbers.iter_mut()) {
+        *number = begun.number(*label);
+    }
+    usize::from(begun.nets)
+}
+
+// The same numbers in memory of their own.
 pub fn numbers_of(alloc: Global, row: &[u8]) -> Result<Vec<Option<u8>>, AllocError> {
-    let mut numbers = BTreeMap::new(alloc);
-    row.iter()
-        .map(|label| number_of(&mut numbers, *label))
-        .try_collect(alloc)
+    let mut of_nodes = vec![in alloc; None; row.len()]?;
+    numbers(row, &mut of_nodes);
+    Ok(of_nodes)
 }

@@ -1,37 +1,27 @@
 // A sheet: what the reader, the agreement test and the drawer say of it, against the second router's judgement.
-use crate::agreement::Agreement;
-use filmtrials::films::{FilmTrials, SheetTrial};
-use rules::{Limit, ReadError};
+use crate::agreement::{Agreement, agreement_fault};
+use answers::Said;
+use filmtrials::films::{FilmTrials, LentFilms, SheetTrial, drawing_fault};
 use secondreader::judge::{
-    Fault, JudgeError, judge, node_count, number_nets, read_head, reader_answer,
+    Fault, MOST_NODES, first_fault, node_count, number_nets, read_head, reader_answer,
 };
-use secondrouter::nets::{Node, numbers_of};
-use secondrouter::placing::Placing;
+use secondrouter::nets::{Kind, Node, numbers};
+use secondrouter::streets::Streets;
 use std::alloc::{AllocError, Global};
-use tallies::failure::{Failure, Part};
+use tallies::failure::{Failure, Finding, Part};
 use tallies::patterns::{fill, keeps, part_mut};
 
 // The most bytes that are lent to the reader.
 const ROW: usize = 640;
 
-// The library's name for a fault. `From` cannot stand here, since both types are of other crates.
-fn refusal(fault: Fault) -> rules::Fault {
-    match fault {
-        Fault::Count => rules::Fault::Head,
-        Fault::Streets => rules::Fault::Tracks,
-        Fault::Length => rules::Fault::Length,
-        Fault::Position(place) => rules::Fault::Position(place),
-        Fault::Upper(place) => rules::Fault::Street(Limit::Upper, place),
-        Fault::Lower(place) => rules::Fault::Street(Limit::Lower, place),
-        Fault::Tracks(place) => rules::Fault::Street(Limit::Sum, place),
-        Fault::Open(place) => rules::Fault::Open(place),
-        Fault::Padding => rules::Fault::Padding,
-        Fault::Nets => rules::Fault::Nets,
-    }
+// The answer that a fault is.
+fn refusal(fault: Fault) -> Said {
+    let (number, place) = fault.answer();
+    Said { number, place }
 }
 
-// What the reader is to do: give back the row of the nodes, or refuse the sheet.
-type Wanted<'a> = Result<&'a [Node], ReadError>;
+// What the reader is to do: give back the row of the nodes, or refuse the sheet with an answer.
+type Wanted<'a> = Result<&'a [Node], Said>;
 
 // Whether a row begins with the labels that the reader gives the nodes.
 fn is_row_of(row: &[u8], nodes: &[Node]) -> bool {
@@ -44,10 +34,111 @@ fn row_need(sheet: &[u8]) -> usize {
     node_count(sheet) % 513
 }
 
-// The trials of a sheet, and the row that is lent to the reader.
+// Fails where the reader, lent so many bytes, does not say what is wanted, or leaves another row. The drawer's goes the same course: a trait for both would take the
+// buffer, who is asked, the count and the row's own test, and be no shorter.
+fn try_call(
+    back: &mut [u8],
+    trial: &mut SheetTrial,
+    lent: usize,
+    wanted: Wanted,
+) -> Result<(), Finding> {
+    let back = part_mut(back, lent);
+    fill(back, trial.seed);
+    let said = sheet::reader::read(trial.sheet, back);
+    let nodes = wanted.unwrap_or(&[]);
+    let answer = match wanted {
+        Ok(nodes) => Said {
+            number: 0,
+            place: nodes.len(),
+        },
+        Err(answer) => answer,
+    };
+    trial.tally.count_read(answer);
+    Part::Reader.says(said, answer)?;
+    Part::Reader.holds(is_row_of(back, nodes))?;
+    Part::Reader.holds(keeps(back, nodes.len(), trial.seed))
+}
+
+// Fails where a row buffer one byte short does not get 14, or 11 to 13 where they hold, or is changed; tried on every fourth sheet.
+fn try_short(back: &mut [u8], trial: &mut SheetTrial) -> Result<(), Finding> {
+    if trial.seed / 16 % 4 != 1 {
+        return Ok(());
+    }
+    let wanted = match read_head(trial.sheet) {
+        Ok(_) => Said {
+            number: 14,
+            place: 0,
+        },
+        Err(fault) => refusal(fault),
+    };
+    let short = row_need(trial.sheet).saturating_sub(1);
+    let lent = short.saturating_sub(trial.seed % 2);
+    try_call(back, trial, lent, Err(wanted))
+}
+
+// Tries the reader, with a row buffer that suffices and with one that does not.
+fn try_reader(back: &mut [u8], trial: &mut SheetTrial, wanted: Wanted) -> Result<(), Finding> {
+    try_short(back, trial)?;
+    let lent = row_need(trial.sheet).saturating_add(trial.seed % 6);
+    try_call(back, trial, lent, wanted)
+}
+
+// The first nodes, or all where there are fewer.
+fn first(nodes: &mut [Node], count: usize) -> &mut [Node] {
+    let end = count.min(nodes.len());
+    &mut nodes[..end]
+}
+
+// Whether nodes have the numbers of a row's nets.
+fn is_numbered(row: &[u8], nodes: &[Node]) -> bool {
+    let mut own = [None; MOST_NODES];
+    let own = &mut own[..row.len().min(MOST_NODES)];
+    numbers(row, own);
+    row.len() == nodes.len() && nodes.iter().map(|node| node.net).eq(own.iter().copied())
+}
+
+// Tries the reader and the agreement test.
+fn try_readings(
+    back: &mut [u8],
+    near: &mut [u8],
+    trial: &mut SheetTrial,
+    wanted: Wanted,
+) -> Result<(), Finding> {
+    try_reader(back, trial, wanted)?;
+    agreement_fault(near, trial, wanted.ok())
+}
+
+// What the reader is to do with a sheet without a fault, whose nodes have the numbers of so many nets.
+fn reading(nodes: &[Node], nets: usize) -> Wanted<'_> {
+    match reader_answer(nodes.len(), nets) {
+        Ok(_) => Ok(nodes),
+        Err(fault) => Err(refusal(fault)),
+    }
+}
+
+// What is wrong with the answers to the sheet of an accepted row, if anything is. The second router's judgement has to take it, and to give back the numbers of the row's
+// nets. What is lent: `back` for the row that the reader gives back, `near` for rows near the trial's, with a byte for each of its nodes, and what the film needs.
+pub fn row_fault(
+    back: &mut [u8],
+    near: &mut [u8],
+    films: LentFilms,
+    trial: &mut SheetTrial,
+) -> Result<(), Finding> {
+    let mut nodes = [Node::new(Kind::Blank, 0); MOST_NODES];
+    let Ok(head) = first_fault(trial.sheet, &mut nodes) else {
+        return Err(Part::SecondRouter.fails());
+    };
+    let nodes = first(&mut nodes, head.nodes);
+    let nets = number_nets(nodes);
+    Part::SecondRouter.holds(is_numbered(trial.row, nodes))?;
+    try_readings(back, near, trial, reading(nodes, nets))?;
+    drawing_fault(films, trial, nodes, head.streets, nets)?;
+    Ok(())
+}
+
+// The trials of a sheet in memory of their own.
 #[derive(Drop)]
 pub struct SheetTrials {
-    alloc: Global,
     back: Vec<u8>,
     agreement: Agreement,
     films: FilmTrials,
@@ -57,102 +148,47 @@ impl SheetTrials {
     // A constructor takes the allocator, and can run out of memory, where `Default` does neither.
     pub fn new(alloc: Global) -> Result<SheetTrials, AllocError> {
         Ok(SheetTrials {
-            alloc,
             back: vec![in alloc; 0; ROW]?,
             agreement: Agreement::new(alloc),
             films: FilmTrials::new(alloc)?,
         })
     }
 
-    // Fails where the reader, lent so many bytes, does not say what is wanted, or leaves another row. The drawer's goes the same course: a trait for both would take the
-    // buffer, who is asked, the count and the row's own test, and be no shorter.
-    fn try_call(
-        &mut self,
-        trial: &mut SheetTrial,
-        lent: usize,
-        wanted: Wanted,
-    ) -> Result<(), Failure> {
-        let back = part_mut(&mut self.back, lent);
-        fill(back, trial.seed);
-        let said = sheet::reader::read(trial.sheet, back);
-        let answer = wanted.map(|nodes| nodes.len());
-        let nodes = wanted.unwrap_or(&[]);
-        trial.tally.count_read(answer);
-        Part::Reader.says(said, answer)?;
-        Part::Reader.holds(is_row_of(back, nodes))?;
-        Part::Reader.holds(keeps(back, nodes.len(), trial.seed))
-    }
-
-    // Fails where a row buffer one byte short does not get 14, or 11 to 13 where they hold, or is changed; tried on every fourth sheet.
-    fn try_short(&mut self, trial: &mut SheetTrial) -> Result<(), Failure> {
-        if trial.seed / 16 % 4 != 1 {
-            return Ok(());
-        }
-        let wanted = match read_head(trial.sheet) {
-            Ok(_) => ReadError::RowShort,
-            Err(fault) => ReadError::Unfit(refusal(fault)),
-        };
-        let short = row_need(trial.sheet).saturating_sub(1);
-        let lent = short.saturating_sub(trial.seed % 2);
-        self.try_call(trial, lent, Err(wanted))
-    }
-
-    // Tries the reader, with a row buffer that suffices and with one that does not.
-    fn try_reader(&mut self, trial: &mut SheetTrial, wanted: Wanted) -> Result<(), Failure> {
-        self.try_short(trial)?;
-        let lent = row_need(trial.sheet).saturating_add(trial.seed % 6);
-        self.try_call(trial, lent, wanted)
-    }
-
-    // Tries the reader and the agreement test.
-    fn try_readings(&mut self, trial: &mut SheetTrial, wanted: Wanted) -> Result<(), Failure> {
-        self.try_reader(trial, wanted)?;
-        self.agreement.try_all(trial, wanted.ok())
-    }
-
-    // Tries a sheet without a fault, whose nodes have the numbers of their nets.
+    // Tries a sheet without a fault.
     fn try_legal(
         &mut self,
         trial: &mut SheetTrial,
-        sheet: &Placing,
-        nets: usize,
+        nodes: &mut [Node],
+        streets: Streets,
     ) -> Result<(), Failure> {
-        let nodes: &[Node] = &sheet.nodes;
-        let wanted = match reader_answer(nodes.len(), nets) {
-            Ok(_) => Ok(nodes),
-            Err(fault) => Err(ReadError::Unfit(refusal(fault))),
-        };
-        self.try_readings(trial, wanted)?;
-        self.films.try_legal(trial, sheet, nets)
+        let nets = number_nets(nodes);
+        let near = self.agreement.lent(trial.row.len())?;
+        try_readings(&mut self.back, near, trial, reading(nodes, nets))?;
+        let films = self.films.lent(nodes.len())?;
+        drawing_fault(films, trial, nodes, streets, nets)?;
+        Ok(())
+    }
+
+    // Tries a sheet that has to be refused with an answer.
+    fn try_illegal(&mut self, trial: &mut SheetTrial, wanted: Said) -> Result<(), Failure> {
+        let near = self.agreement.lent(trial.row.len())?;
+        try_readings(&mut self.back, near, trial, Err(wanted))?;
+        self.films.try_refused(trial, wanted)
     }
 
     // Tries any sheet.
     pub fn try_sheet(&mut self, trial: &mut SheetTrial) -> Result<(), Failure> {
-        match judge(self.alloc, trial.sheet) {
-            Ok(mut sheet) => {
-                let nets = number_nets(&mut sheet.nodes);
-                self.try_legal(trial, &sheet, nets)
-            }
-            Err(JudgeError::Fault(fault)) => {
-                let fault = refusal(fault);
-                self.try_readings(trial, Err(ReadError::Unfit(fault)))?;
-                self.films.try_refused(trial, fault)
-            }
-            Err(JudgeError::Memory(error)) => Err(error.into()),
+        let mut nodes = [Node::new(Kind::Blank, 0); MOST_NODES];
+        match first_fault(trial.sheet, &mut nodes) {
+            Ok(head) => self.try_legal(trial, first(&mut nodes, head.nodes), head.streets),
+            Err(fault) => self.try_illegal(trial, refusal(fault)),
         }
     }
 
-    // Tries the sheet of an accepted row. The second router's judgement has to take it, and to give back the numbers of the row's nets.
+    // Tries the sheet of an accepted row.
     pub fn try_own(&mut self, trial: &mut SheetTrial) -> Result<(), Failure> {
-        let mut sheet = match judge(self.alloc, trial.sheet) {
-            Ok(sheet) => sheet,
-            Err(JudgeError::Fault(_)) => return Err(Part::SecondRouter.fails()),
-            Err(JudgeError::Memory(error)) => return Err(error.into()),
-        };
-        let nets = number_nets(&mut sheet.nodes);
-        let numbers = numbers_of(self.alloc, trial.row)?;
-        let nodes = sheet.nodes.iter().map(|node| node.net);
-        Part::SecondRouter.holds(nodes.eq(numbers.iter().copied()))?;
-        self.try_legal(trial, &sheet, nets)
+        let near = self.agreement.lent(trial.row.len())?;
+        let films = self.films.lent(MOST_NODES)?;
+        Ok(row_fault(&mut self.back, near, films, trial)?)
     }
 }

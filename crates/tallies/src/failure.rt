@@ -42,6 +42,12 @@ pub enum Failure {
     Memory(AllocError),
 }
 
+impl From<Finding> for Failure {
+    fn from(finding: Finding) -> Failure {
+        Failure::Found(finding)
+    }
+}
+
 impl From<AllocError> for Failure {
     fn from(error: AllocError) -> Failure {
         Failure::Memory(error)
@@ -49,31 +55,30 @@ impl From<AllocError> for Failure {
 }
 
 impl Part {
-    // Fails where the part does not give the answer that is wanted.
-    pub fn says<T: Copy + PartialEq + Into<Said>>(self, said: T, wanted: T) -> Result<(), Failure> {
+    // Fails where the part does not give the answer that is wanted. That comes in the numbers of the documents, from the second router alone, so that the library's own
+    // numbers and places are tested too.
+    pub fn says<T: Into<Said>>(self, said: T, wanted: Said) -> Result<(), Finding> {
+        let said = said.into();
         if said == wanted {
             return Ok(());
         }
-        Err(Failure::Found(Finding {
+        Err(Finding {
             part: self,
-            answers: Some(Answers {
-                said: said.into(),
-                wanted: wanted.into(),
-            }),
-        }))
+            answers: Some(Answers { said, wanted }),
+        })
     }
 
     // Fails where the part's test does not hold.
-    pub fn holds(self, test: bool) -> Result<(), Failure> {
+    pub fn holds(self, test: bool) -> Result<(), Finding> {
         if test { Ok(()) } else { Err(self.fails()) }
     }
 
-    // The failure of the part by something else than an answer.
-    pub fn fails(self) -> Failure {
-        Failure::Found(Finding {
+    // What is found where the part fails by something else than an answer.
+    pub fn fails(self) -> Finding {
+        Finding {
             part: self,
             answers: None,
-        })
+        }
     }
 }
 

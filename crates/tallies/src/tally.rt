@@ -3,7 +3,6 @@ use crate::count::Count;
 use crate::failure::{Disagreement, Failure, Subject};
 use crate::source::Source;
 use answers::Said;
-use rules::{Drawing, Reading, RouteError, Routing};
 use secondrouter::streets::Streets;
 use std::{io, mem};
 
@@ -72,11 +71,11 @@ impl Tally {
     }
 
     // Counts a right answer of the router to a row of `nodes` nodes.
-    pub fn count_routed(&mut self, answer: Routing, nodes: usize) {
-        match answer {
-            Ok(_) => add(&mut self.source.accepted, 1),
-            Err(RouteError::Stuck(place)) => self.count_stuck(place, nodes),
-            Err(_) => self.count_more(Count::LoneFound, 1),
+    pub fn count_routed(&mut self, answer: Said, nodes: usize) {
+        match answer.number {
+            0 => add(&mut self.source.accepted, 1),
+            6 => self.count_stuck(answer.place, nodes),
+            _ => self.count_more(Count::LoneFound, 1),
         }
     }
 
@@ -93,11 +92,11 @@ impl Tally {
     }
 
     // Counts a right answer of the reader under its number.
-    pub fn count_read(&mut self, answer: Reading) {
-        if let Some(times) = self.times(answer.into()) {
+    pub fn count_read(&mut self, answer: Said) {
+        if let Some(times) = self.times(answer) {
             add(&mut times.read, 1);
         }
-        if answer.is_ok() {
+        if answer.number == 0 {
             self.count_more(Count::SheetsRead, 1);
         }
     }
@@ -113,8 +112,8 @@ impl Tally {
     }
 
     // Counts a right answer of the drawer under its number. Beside `count_read`: the field differs, and a function of both would take it as a closure.
-    pub fn count_drawn(&mut self, answer: Drawing) {
-        if let Some(times) = self.times(answer.into()) {
+    pub fn count_drawn(&mut self, answer: Said) {
+        if let Some(times) = self.times(answer) {
             add(&mut times.drawn, 1);
         }
     }

@@ -1,7 +1,8 @@
 // One row under one pair of streets: every answer and every byte of the library against the second router's.
+use answers::Said;
 use filmtrials::films::SheetTrial;
-use rules::{RouteError, Routing};
 use secondfilm::sheets::{packed, sheet_need, work_need};
+use secondrouter::orders::Order;
 use secondrouter::placing::{PlaceError, Placing};
 use secondrouter::streets::Streets;
 use secondrouter::{depth, layers};
@@ -9,7 +10,7 @@ use sheettrials::sheets::SheetTrials;
 use std::alloc::{AllocError, Global};
 use std::io;
 use tallies::count::Count;
-use tallies::failure::{Failure, Part, Subject};
+use tallies::failure::{Failure, Finding, Part, Subject};
 use tallies::patterns::{fill, is_clear, keeps, part, part_mut};
 use tallies::source::Source;
 use tallies::tally::Tally;
@@ -30,8 +31,8 @@ struct RowTrial<'a> {
     seed: usize,
 }
 
-// What the router is to do: write this sheet, or refuse the row.
-type Wanted<'a> = Result<&'a [u8], RouteError>;
+// What the router is to do: write this sheet, or refuse the row with an answer.
+type Wanted<'a> = Result<&'a [u8], Said>;
 
 // A call of the router: the row, how many bytes it is lent, and what it is to do.
 #[derive(Clone, Copy)]
@@ -67,16 +68,16 @@ impl<'a> RowTrial<'a> {
             },
             work,
             sheet,
-            wanted: Err(RouteError::Tracks),
+            wanted: Err(refusal(2, 0)),
         };
         let short_work = Call {
             work: work.saturating_sub(1),
-            wanted: Err(RouteError::WorkShort),
+            wanted: Err(refusal(4, 0)),
             ..full
         };
         let short_sheet = Call {
             sheet: sheet.saturating_sub(1),
-            wanted: Err(RouteError::SheetShort),
+            wanted: Err(refusal(5, 0)),
             ..full
         };
         let wide = Call {
@@ -95,19 +96,32 @@ impl<'a> RowTrial<'a> {
     }
 }
 
-// Whether the work space is as the router's answer to a row of `nodes` nodes leaves it: zero for 90 bytes a node where the row was searched, and as it was
-// behind; else as it was everywhere. `lent` has the same rule for its own pattern: `fill` in tallies says why these are not one.
-fn is_work_right(work: &[u8], nodes: usize, answer: Routing, seed: usize) -> bool {
-    match answer {
-        Ok(_) | Err(RouteError::Stuck(_)) => {
-            let need = work_need(nodes);
-            is_clear(part(work, need)) && keeps(work, need, seed)
-        }
-        Err(_) => keeps(work, 0, seed),
+// The answer that refuses a row, by its number and its place.
+fn refusal(number: u32, place: usize) -> Said {
+    Said { number, place }
+}
+
+// The answer that takes a row of so many nodes.
+fn acceptance(nodes: usize) -> Said {
+    Said {
+        number: 0,
+        place: nodes,
     }
 }
 
-// The trials of rows and sheets: where disagreements are printed, the counts, and the buffers that are lent to the router.
+// Whether the work space is as the router's answer to a row of `nodes` nodes leaves it: zero for 90 bytes a node where the row was searched, and as it was
+// behind; else as it was everywhere. `lent` has the same rule for its own pattern: `fill` in tallies says why these are not one.
+fn is_work_right(work: &[u8], nodes: usize, answer: Said, seed: usize) -> bool {
+    match answer.number {
+        0 | 6 => {
+            let need = work_need(nodes);
+            is_clear(part(work, need)) && keeps(work, need, seed)
+        }
+        _ => keeps(work, 0, seed),
+    }
+}
+
+// The trials of rows and sheets: where disagreements are printed, the counts, the buffers that are lent to the router, and the memory of the second router's layers.
 #[derive(Drop)]
 pub struct Trials<'a, R: Print> {
     rt: &'a R,
@@ -115,6 +129,8 @@ pub struct Trials<'a, R: Print> {
     pub tally: Tally,
     work: Vec<u8>,
     sheet: Vec<u8>,
+    orders: Vec<Order>,
+    starts: Vec<usize>,
     sheets: SheetTrials,
 }
 
@@ -127,27 +143,33 @@ impl<'a, R: Print> Trials<'a, R> {
             tally: Tally::default(),
             work: vec![in alloc; 0; WORK]?,
             sheet: vec![in alloc; 0; SHEET]?,
+            orders: Vec::new(alloc),
+            starts: Vec::new(alloc),
             sheets: SheetTrials::new(alloc)?,
         })
     }
 
     // Fails where the router does not say what is wanted, or leaves other bytes in a buffer.
-    fn try_call(&mut self, call: Call) -> Result<(), Failure> {
+    fn try_call(&mut self, call: Call) -> Result<(), Finding> {
         let RowTrial { row, streets, seed } = call.trial;
         let work = part_mut(&mut self.work, call.work);
         let sheet = part_mut(&mut self.sheet, call.sheet);
         fill(work, seed);
         fill(sheet, seed);
-        let said = router::route(row, streets.upper, streets.lower, work, sheet);
+        let said = Said::from(router::route(row, streets.upper, streets.lower, work, sheet));
         let packed = call.wanted.unwrap_or(&[]);
-        call.part.says(said, call.wanted.map(|_| row.len()))?;
+        let wanted = match call.wanted {
+            Ok(_) => acceptance(row.len()),
+            Err(answer) => answer,
+        };
+        call.part.says(said, wanted)?;
         call.part.holds(is_work_right(work, row.len(), said, seed))?;
         call.part.holds(sheet.starts_with(packed))?;
         call.part.holds(keeps(sheet, packed.len(), seed))
     }
 
     // Tries the router's first tests.
-    fn try_first_tests(&mut self, trial: RowTrial) -> Result<(), Failure> {
+    fn try_first_tests(&mut self, trial: RowTrial) -> Result<(), Finding> {
         for call in trial.early_calls() {
             self.tally.count(Count::EarlyCalls);
             self.try_call(call)?;
@@ -156,10 +178,10 @@ impl<'a, R: Print> Trials<'a, R> {
     }
 
     // Tries the router on a row that it has to refuse, and its first tests on every eighth row that has no placing.
-    fn try_refused(&mut self, trial: RowTrial, cause: RouteError) -> Result<(), Failure> {
-        self.tally.count_routed(Err(cause), trial.row.len());
-        self.try_call(trial.call(Err(cause)))?;
-        if matches!(cause, RouteError::Stuck(_)) && trial.seed / 16 % 8 == 0 {
+    fn try_refused(&mut self, trial: RowTrial, wanted: Said) -> Result<(), Finding> {
+        self.tally.count_routed(wanted, trial.row.len());
+        self.try_call(trial.call(Err(wanted)))?;
+        if wanted.number == 6 && trial.seed / 16 % 8 == 0 {
             return self.try_first_tests(trial);
         }
         Ok(())
@@ -169,7 +191,7 @@ impl<'a, R: Print> Trials<'a, R> {
     fn try_accepted(&mut self, trial: RowTrial, placing: &Placing) -> Result<(), Failure> {
         let RowTrial { row, seed, .. } = trial;
         let sheet = packed(placing)?;
-        self.tally.count_routed(Ok(row.len()), row.len());
+        self.tally.count_routed(acceptance(row.len()), row.len());
         self.try_call(trial.call(Ok(&sheet)))?;
         self.sheets.try_own(&mut SheetTrial {
             tally: &mut self.tally,
@@ -179,27 +201,42 @@ impl<'a, R: Print> Trials<'a, R> {
         })
     }
 
+    // A row's first placing by layers, in memory that is kept from one row to the next.
+    fn place_by_layers(&mut self, row: &[u8], streets: Streets) -> Result<Placing, PlaceError> {
+        let mut placing = Placing::of_row(self.alloc, row, streets)?;
+        let need = layers::orders_need(&placing.nodes, streets);
+        if self.orders.len() < need {
+            self.orders.resize(need, Order::new())?;
+        }
+        if self.starts.len() < row.len() {
+            self.starts.resize(row.len(), 0)?;
+        }
+        layers::search(
+            &mut placing.nodes,
+            streets,
+            &mut self.orders,
+            &mut self.starts,
+        )
+        .map_err(PlaceError::Stuck)?;
+        Ok(placing)
+    }
+
     // Tries the router on a row. The two searches of the second router have to agree on short rows.
     fn try_row(&mut self, trial: RowTrial) -> Result<(), Failure> {
         let RowTrial { row, streets, .. } = trial;
-        let by_layers = Placing::of_row(self.alloc, row, streets).and_then(layers::place);
+        let by_layers = self.place_by_layers(row, streets);
         if row.len() <= SHORT {
             let by_depth = Placing::of_row(self.alloc, row, streets).and_then(depth::place);
             Part::SecondRouter.holds(by_depth == by_layers)?;
         }
         // Node i has place i + 1.
-        match by_layers {
-            Ok(placing) => self.try_accepted(trial, &placing),
-            Err(PlaceError::Lone(i)) => self.try_refused(
-                trial,
-                RouteError::Lone(i.saturating_add(1)),
-            ),
-            Err(PlaceError::Stuck(i)) => self.try_refused(
-                trial,
-                RouteError::Stuck(i.saturating_add(1)),
-            ),
-            Err(PlaceError::Memory(error)) => Err(error.into()),
-        }
+        let wanted = match by_layers {
+            Ok(placing) => return self.try_accepted(trial, &placing),
+            Err(PlaceError::Lone(i)) => refusal(3, i.saturating_add(1)),
+            Err(PlaceError::Stuck(i)) => refusal(6, i.saturating_add(1)),
+            Err(PlaceError::Memory(error)) => return Err(error.into()),
+        };
+        Ok(self.try_refused(trial, wanted)?)
     }
 
     // Tests a row under a pair of streets, and counts and prints a disagreement.
