@@ -1,56 +1,38 @@
 -- `sheet::agreement::same_pins` meets its contract, by the invariant of Invariants.antt. Assumes nothing.
-use mathlib.Core.Path.{sym}
-use borrow.Author.Rules.{rules}
-use lib.ListN.{length, length-append}
+use mathlib.Core.Path.{sym, ◌∙◌}
+use native.Mathlib.Numerals.{add-one}
 use native.Mathlib.Omega.{arith}
-use Rattle.std.proofs.lemmas.Slice.Zip.{zip_turn, zip_end}
+use lib.ListN.{get_or}
 use Rattle.rules.proofs.PinsTest.{same_test, other_test}
-use Rattle.sheet.proofs.Matches.{full, match-start, cells-apart, cells-blank, cells-step, cells-fail, match-end}
+use Rattle.sheet.proofs.Matches.{match-start, match-step, match-fails, match-end}
 use Rattle.sheet.proofs.agreement.same_pins.Goals as goal
 
-pub returns-then-row-own : goal.returns-then-row-own
-returns-then-row-own c =
+pub returns-then-row-n : goal.returns-then-row-n
+returns-then-row-n c =
     let a = c.args in
-    sym (other_test a.row.now a.own.now (λ s. c.if-row-own.true s.count))
+    sym (other_test a.row.now a.own.now (λ s. c.if-row-n.true s.count))
 
-pub loop-label-init : goal.loop-label-init
-loop-label-init c = match-start c.args.row.now c.args.own.now c.requires
+pub loop-i-init : goal.loop-i-init
+loop-i-init c =
+    match-start c.args.row.now c.args.own.now c.requires
 
-pub returns-then-label-net : goal.returns-then-label-net
-returns-then-label-net c =
+pub returns-then-nets-label : goal.returns-then-nets-label
+returns-then-nets-label c =
     let a = c.args in
-    let l = c.loop-label in
-    let turn = zip_turn a.row.now a.own.now l.yielded c.into_iter-label-iterator.result l.label-iterator c.next.new.self c.next.result (search rules) (search rules) l.yielded_by _ c.in-Some.is c.next.ensures.steps in
-    sym (other_test a.row.now a.own.now (cells-apart a.row.now a.own.now l.nets (length l.yielded) l.begun turn.1 l.invariant (turn.2 0) (turn.3 0) (search rules) turn.0))
-
-pub returns-then-ne : goal.returns-then-ne
-returns-then-ne c =
-    let a = c.args in
-    let l = c.loop-label in
-    let turn = zip_turn a.row.now a.own.now l.yielded c.into_iter-label-iterator.result l.label-iterator c.next.new.self c.next.result (search rules) (search rules) l.yielded_by _ c.in-Some.is c.next.ensures.steps in
+    let l = c.loop-i in
     sym (other_test a.row.now a.own.now
-    (cells-fail a.row.now a.own.now l.nets (length l.yielded) l.begun turn.1 l.invariant (turn.2 0) (turn.3 0) (search rules) (omega arith) c.known.ensures c.if-ne.ensures turn.0))
+    (match-fails a.row.now a.own.now l.nets l.i l.begun (omega arith) l.invariant (omega arith) (λ e. c.if-nets-label.true (e ∙ sym c.known.ensures))))
 
-pub loop-label-preserved-then-net : goal.loop-label-preserved-then-net
-loop-label-preserved-then-net c =
+pub loop-i-preserved : goal.loop-i-preserved
+loop-i-preserved c =
     let a = c.args in
-    let l = c.loop-label in
-    let turn = zip_turn a.row.now a.own.now l.yielded c.into_iter-label-iterator.result l.label-iterator c.next.new.self c.next.result (search rules) (search rules) l.yielded_by _ c.in-Some.is c.next.ensures.steps in
-    rw length-append
-    (cells-step a.row.now a.own.now l.nets (length l.yielded) l.begun turn.1 l.invariant (turn.2 0) (turn.3 0) (search rules) (omega arith) c.known.ensures (omega arith) c.if-ne.ensures c.begun_after-begun.ensures)
-
-pub loop-label-preserved : goal.loop-label-preserved
-loop-label-preserved c =
-    let a = c.args in
-    let l = c.loop-label in
-    let turn = zip_turn a.row.now a.own.now l.yielded c.into_iter-label-iterator.result l.label-iterator c.next.new.self c.next.result (search rules) (search rules) l.yielded_by _ c.in-Some.is c.next.ensures.steps in
-    rw length-append
-    (cells-blank a.row.now a.own.now l.nets (length l.yielded) l.begun turn.1 l.invariant (turn.2 0) (turn.3 0) (search rules) (omega arith))
+    let l = c.loop-i in
+    match-step a.row.now a.own.now l.nets l.i l.begun (omega arith) l.invariant (omega arith)
+    (c.if-nets-label.false ∙ c.known.ensures) (add-one (get_or a.own.now l.i 0)) c.begun_after-begun.ensures
 
 pub returns : goal.returns
 returns c =
     let a = c.args in
-    let l = c.loop-label in
-    let end = zip_end a.row.now a.own.now l.yielded c.into_iter-label-iterator.result l.label-iterator c.next.new.self c.next.result (search rules) (search rules) l.yielded_by c.in-None.is c.next.ensures.steps in
+    let l = c.loop-i in
     sym (same_test a.row.now a.own.now
-    (match-end a.row.now a.own.now (full l.nets) l.begun (length l.yielded) (omega arith) (omega (arith, end)) l.invariant))
+    (match-end a.row.now a.own.now l.nets l.begun l.i (omega arith) (omega (arith, l.invariant.within)) l.invariant))
