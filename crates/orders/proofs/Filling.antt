@@ -8,7 +8,7 @@ use native.Mathlib.Omega.{arith}
 use lib.ListN.{length, take}
 use borrow.Author.Tests.{eqb-true, eq-eqb}
 use Rattle.rules.specs.declared.Streets.{Streets}
-use Rattle.steps.specs.declared.plan.Step.{Step}
+use Rattle.steps.specs.Plan.{Step}
 use Rattle.steps.specs.Ranks.{RankOf, Way}
 use Rattle.steps.specs.Sets.{ranks, marked, source, Exactly, Empty, Some, Loses}
 use Rattle.steps.specs.Leading.{Reached}

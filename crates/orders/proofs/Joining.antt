@@ -6,7 +6,7 @@ use native.Mathlib.Omega.{arith}
 use lib.ListN.{length}
 use lib.Seq.{take_all}
 use Rattle.rules.specs.declared.Streets.{Streets}
-use Rattle.steps.specs.declared.plan.Step.{Step}
+use Rattle.steps.specs.Plan.{Step}
 use Rattle.orders.specs.Passes.{Given, Filled, Passable, Forward, Pruned, Kept}
 use Rattle.orders.proofs.Nodes.{rank_below}
 

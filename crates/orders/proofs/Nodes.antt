@@ -1,16 +1,16 @@
 -- The stops that the passes make of a plan are sound, and ways go on through them.
-use mathlib.Core.Path.{refl}
+use mathlib.Core.Path.{◌≡◌, refl, ◌∙◌}
 use mathlib.Core.List.{List, ◌∷◌}
 use Prim.Native.Nat.{ℕ, zero, suc, ◌<◌}
 use native.Mathlib.Omega.{arith}
 use lib.ListN.{length, get_or, take, drop}
 use lib.Seq.{drop-cons}
 use Rattle.std.specs.Prelude.{IsTrue}
+use Rattle.std.proofs.lemmas.List.{get_or_default}
 use Rattle.rules.specs.declared.Streets.{Streets}
 use Rattle.steps.specs.declared.plan.Turn.TheVariants.{Begins}
-use Rattle.steps.specs.declared.plan.Step.{Step}
 use Rattle.steps.specs.declared.plan.Stop.{Stop}
-use Rattle.steps.specs.Plan.{step, turn_kind, touches, Steps}
+use Rattle.steps.specs.Plan.{Step, step, turn_kind, touches, Steps}
 use Rattle.steps.specs.Ranks.{RankOf, Way, Ahead}
 use Rattle.steps.specs.Sets.{ranks}
 use Rattle.steps.specs.Stops.{Sound}
@@ -27,6 +27,10 @@ node_at ss i = get_or ss i none
 
 abbrev pub stop_at : List Step → Streets → ℕ → Stop
 stop_at ss st i = record { step = node_at ss i; streets = st }
+
+-- the step that an index reads is the node there
+pub step-read : (ss : List Step) (i : ℕ) (s : Step) → i < length ss → s ≡ get_or ss i s → s ≡ node_at ss i
+step-read ss i s l e = e ∙ get_or_default ss i s none l
 
 module _ (ss : List Step) (st : Streets) where
   module _ (i : ℕ) (l : i < length ss) where

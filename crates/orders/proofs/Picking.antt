@@ -13,7 +13,7 @@ use lib.Dec.{eqb, ltb}
 use borrow.Author.Tests.{eqb-true, eqb-false, ltb-true, ltb-false}
 use Rattle.rules.specs.Street.{Earlier, here, there}
 use Rattle.rules.specs.declared.Streets.{Streets}
-use Rattle.steps.specs.declared.plan.Step.{Step}
+use Rattle.steps.specs.Plan.{Step}
 use Rattle.steps.specs.Ranks.{hop_of, hops, Way, Ahead}
 use Rattle.steps.specs.Sets.{ranks, marked}
 use Rattle.steps.specs.Stops.{hop_at}

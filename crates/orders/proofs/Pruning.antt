@@ -8,7 +8,7 @@ use lib.ListN.{length, drop, drop_of_length-le}
 use lib.Dec.{eqb}
 use borrow.Author.Tests.{eqb-true, eqb-false}
 use Rattle.rules.specs.declared.Streets.{Streets}
-use Rattle.steps.specs.declared.plan.Step.{Step}
+use Rattle.steps.specs.Plan.{Step}
 use Rattle.steps.specs.Ranks.{RankOf, Ahead}
 use Rattle.steps.specs.Sets.{ranks, marked, source, Loses}
 use Rattle.steps.specs.Leading.{Onward, Reached}

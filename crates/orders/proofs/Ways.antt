@@ -12,8 +12,7 @@ use Rattle.rules.specs.declared.Kind.TheVariants.{B}
 use Rattle.rules.specs.declared.Streets.{Streets}
 use Rattle.rules.specs.Judgement.{left}
 use Rattle.steps.specs.declared.plan.Turn.TheVariants.{Begins, Meets, Ends, Rests}
-use Rattle.steps.specs.declared.plan.Step.{Step}
-use Rattle.steps.specs.Plan.{step, turn_kind, turn_age, touches, Steps, nil, full, begins, meets, ends, rests}
+use Rattle.steps.specs.Plan.{Step, step, turn_kind, turn_age, touches, Steps, nil, full, begins, meets, ends, rests}
 use Rattle.steps.specs.Ranks.{hop_of, hops, open_after, RankOf, Way, Ahead}
 use Rattle.steps.specs.Sets.{ranks}
 use Rattle.orders.specs.Passes.{Passable}

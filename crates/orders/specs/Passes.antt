@@ -2,8 +2,7 @@
 use Rattle.std.specs.Prelude.{◌≡◌, Bool, true, false, List, ◌⊎◌, ℕ, suc, ◌+◌, ◌*◌, ◌<◌, ◌≤◌, length, take, drop}
 use Rattle.std.proofs.Math.Option.{some}
 use Rattle.rules.specs.Street.{Earlier}
-use Rattle.steps.specs.declared.plan.Step.{Step}
-use Rattle.steps.specs.Plan.{Steps}
+use Rattle.steps.specs.Plan.{Step, Steps}
 use Rattle.steps.specs.Ranks.{fact, hops, Way, Ahead}
 use Rattle.steps.specs.Sets.{ranks, stretch, marked}
 

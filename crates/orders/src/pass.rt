@@ -130,8 +130,8 @@ fn prune_set(work: &mut [u8], g: usize, stop: Stop)
     ensures { Loses work.old g (Onward stop work.old (suc g)) work.new }
 {
     let Stop { step, streets } = stop;
-    let count = step.count;
-    match step.turn {
+    let count = step.count();
+    match step.turn() {
         Turn::Begins => unopen(work, g, count, streets),
         Turn::Ends(age) => {
             let net = Net {

@@ -20,8 +20,8 @@ pub fn spread(work: &mut [u8], g: usize, stop: Stop) -> bool
     ensures bare { Bare work.new g result }
 {
     let Stop { step, streets } = stop;
-    let count = step.count;
-    match step.turn {
+    let count = step.count();
+    match step.turn() {
         Turn::Begins => open(work, g, count, streets),
         Turn::Meets(age) => {
             let net = Net {

@@ -28,8 +28,7 @@ use Rattle.rules.proofs.Failing.{passes-take}
 use Rattle.std.specs.Prelude.{IsTrue}
 use Rattle.steps.specs.declared.plan.Turn.{Turn}
 use Rattle.steps.specs.declared.plan.Turn.TheVariants.{Begins}
-use Rattle.steps.specs.declared.plan.Step.{Step}
-use Rattle.steps.specs.Plan.{step, turn_kind, turn_age, touches, young, turn, Steps, Tells}
+use Rattle.steps.specs.Plan.{Step, step, turn_kind, turn_age, touches, young, turn, Steps, Tells}
 use Rattle.steps.specs.Ranks.{fact, order_of, at_of, less_of, hop_by, hop_of, hops}
 use Rattle.steps.proofs.Hops.{hop-made}
 use Rattle.steps.proofs.Turns.{kind-turn}

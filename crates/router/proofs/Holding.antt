@@ -21,8 +21,7 @@ use Rattle.rules.proofs.Open.{Onto, onto}
 use Rattle.rules.proofs.Renamed.{Only, before-map, next_map, home-only}
 use Rattle.rules.proofs.Accepted.{length-nodes}
 use Rattle.std.specs.Prelude.{IsTrue}
-use Rattle.steps.specs.declared.plan.Step.{Step}
-use Rattle.steps.specs.Plan.{turn_kind, touches, Steps, Tells}
+use Rattle.steps.specs.Plan.{Step, turn_kind, touches, Steps, Tells}
 use Rattle.orders.proofs.Nodes.{none}
 use Rattle.steps.specs.Ranks.{order_of, hop_of, hops}
 use Rattle.orders.proofs.Ways.{hops-start, hop-last}

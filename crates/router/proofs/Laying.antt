@@ -21,8 +21,7 @@ use Rattle.rules.proofs.Failing.{stops-failing}
 use Rattle.rules.proofs.NoPlacing.{stops-stuck}
 use Rattle.rules.proofs.Accepted.{length-nodes}
 use Rattle.rules.proofs.Demand3.{Fit}
-use Rattle.steps.specs.declared.plan.Step.{Step}
-use Rattle.steps.specs.Plan.{Steps, Tells}
+use Rattle.steps.specs.Plan.{Step, Steps, Tells}
 use Rattle.steps.specs.Sets.{Clear}
 use Rattle.orders.specs.Passes.{Given, First}
 use Rattle.script.proofs.Touched.{tells-steps}

@@ -9,7 +9,7 @@ use Rattle.std.specs.Result.{is_ok}
 use Rattle.rules.specs.declared.Streets.{Streets}
 use Rattle.rules.specs.Row.{nodes}
 use Rattle.rules.specs.Street.{kind}
-use Rattle.steps.specs.declared.plan.Step.{Step}
+use Rattle.steps.specs.Plan.{Step}
 use Rattle.orders.specs.Passes.{Given, Passable}
 use Rattle.script.specs.Told.{kinds}
 use Rattle.script.proofs.Passed.{plan-kinds}

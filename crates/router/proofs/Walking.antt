@@ -12,8 +12,7 @@ use Rattle.rules.specs.declared.Streets.{Streets}
 use Rattle.rules.specs.Row.{node}
 use Rattle.rules.specs.Street.{next}
 use Rattle.rules.proofs.Accepted.{length-nodes}
-use Rattle.steps.specs.Plan.{turn_kind}
-use Rattle.steps.specs.declared.plan.Step.{Step}
+use Rattle.steps.specs.Plan.{Step, turn_kind}
 use Rattle.steps.proofs.Hops.{stop-lands}
 use Rattle.orders.proofs.Nodes.{none, stop_at, stop-ready}
 use Rattle.orders.proofs.Picking.{Picks, picks_start, picks-step, picks-end, leads-on, marks-led}

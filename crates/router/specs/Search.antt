@@ -1,6 +1,6 @@
 -- What the search over the sets of orders gives: the entries of the first way through all nodes, or how many nodes can be passed, and work that is clear again.
 use Rattle.std.specs.Prelude.{◌≡◌, List, ℕ, suc, ◌<◌, length, take, Result, MatchResult}
-use Rattle.steps.specs.declared.plan.Step.{Step}
+use Rattle.steps.specs.Plan.{Step}
 use Rattle.steps.specs.Sets.{Clear}
 use Rattle.orders.specs.Passes.{Passable}
 use Rattle.writer.specs.Entries.{Entry}

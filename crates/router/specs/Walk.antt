@@ -6,9 +6,8 @@ use Rattle.rules.specs.declared.Kind.TheVariants.{B}
 use Rattle.rules.specs.Row.{before, lone, node, nodes}
 use Rattle.rules.specs.Street.{kind, next}
 use Rattle.street.specs.Order.{capacity}
-use Rattle.steps.specs.declared.plan.Step.{Step}
 use Rattle.steps.specs.declared.plan.Stop.{Stop}
-use Rattle.steps.specs.Plan.{turn_kind, touches, Tells}
+use Rattle.steps.specs.Plan.{Step, turn_kind, touches, Tells}
 use Rattle.steps.specs.Ranks.{fact}
 use Rattle.steps.specs.Sets.{stretch, marked}
 use Rattle.steps.specs.Stops.{hop_at, Sound}

@@ -55,10 +55,7 @@ fn route_between(row: &[u8], streets: Streets, work: &mut [u8], sheet: &mut [u8]
         return Err(RouteError::SheetShort);
     }
     // A step for each node that a row can have: there is no heap.
-    let mut plan = [Step {
-        turn: Turn::Begins,
-        count: 0,
-    }; 512];
+    let mut plan = [Step::new(Turn::Begins, 0); 512];
     tell(&labels, &mut plan);
     lay(row, &plan[..n], streets, work, sheet)
 }

@@ -22,7 +22,7 @@ pub fn walk(row: &[u8], work: &[u8], plan: &[Step], streets: Streets, entries: &
     for (i, &step) in plan.iter().enumerate() {
         let stop = Stop { step, streets };
         let (place, after) = stand(held, rank, stop, row[i], work, i);
-        entries[i] = Entry::new(Kind::from(step.turn), place.at as u8);
+        entries[i] = Entry::new(Kind::from(step.turn()), place.at as u8);
         rank = place.rest;
         held = after;
     }
@@ -35,9 +35,9 @@ fn stand(held: Order, rank: usize, stop: Stop, x: u8, work: &[u8], g: usize) -> 
     ensures { Stood held stop work.now g rank x result.0.at result.0.rest result.1 }
 {
     let step = stop.step;
-    match step.turn {
+    match step.turn() {
         Turn::Begins => {
-            let place = enter(work, g, usize::from(step.count), rank);
+            let place = enter(work, g, usize::from(step.count()), rank);
             (place, held.insert(place.at, x))
         }
         Turn::Meets(_) => {
@@ -45,12 +45,12 @@ fn stand(held: Order, rank: usize, stop: Stop, x: u8, work: &[u8], g: usize) -> 
             (Place { at, rest: rank }, held)
         }
         Turn::Ends(age) => {
-            let place = locate(usize::from(age), usize::from(step.count), rank);
+            let place = locate(usize::from(age), usize::from(step.count()), rank);
             (place, held.remove(place.at))
         }
         // The fewest wires that can pass above a blank, where as many as the lower street has tracks pass below.
         Turn::Rests => {
-            let at = usize::from(step.count.saturating_sub(stop.streets.lower));
+            let at = usize::from(step.count().saturating_sub(stop.streets.lower));
             (Place { at, rest: rank }, held)
         }
     }

@@ -12,8 +12,7 @@ use Rattle.rules.specs.Street.{kind, counted, last, next, run}
 use Rattle.rules.proofs.Lists.{length-put, length_cut}
 use Rattle.rules.proofs.Fits.{FitsAt}
 use Rattle.rules.proofs.Open.{onto}
-use Rattle.steps.specs.declared.plan.Step.{Step}
-use Rattle.steps.specs.Plan.{young, Tells}
+use Rattle.steps.specs.Plan.{Step, young, Tells}
 use Rattle.script.specs.Told.{kinds}
 use Rattle.steps.proofs.Turns.{kind-turn}
 use Rattle.script.proofs.Touched.{Kept, kept-none, kept_next, node-open, From, from-nodes}

@@ -18,8 +18,7 @@ use Rattle.rules.proofs.Pins.{length-tabulate, get_d_tabulate, before-found, hom
 use Rattle.rules.proofs.Fields.{below-mono}
 use Rattle.steps.specs.declared.plan.Turn.{Turn}
 use Rattle.steps.specs.declared.plan.Turn.TheVariants.{Begins}
-use Rattle.steps.specs.declared.plan.Step.{Step}
-use Rattle.steps.specs.Plan.{step, touches, young, turn, Tells}
+use Rattle.steps.specs.Plan.{Step, step, touches, young, turn, Tells}
 use Rattle.script.specs.Tabled.{noted, Tabled}
 use Rattle.script.specs.Told.{kind_by, Turning, Turned, Full, Told}
 use Rattle.std.specs.Prelude.{IsTrue}

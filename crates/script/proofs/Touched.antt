@@ -17,8 +17,7 @@ use Rattle.rules.proofs.Pins.{at_before, home-le, label-home, node-blank, node-n
 use Rattle.rules.proofs.Lists.{length_cut}
 use Rattle.rules.proofs.Legal.{New}
 use Rattle.rules.proofs.Open.{one, one_same, one-other, times, times_cut, Ahead, ahead-later}
-use Rattle.steps.specs.declared.plan.Step.{Step}
-use Rattle.steps.specs.Plan.{step, young, turn, Steps, Tells}
+use Rattle.steps.specs.Plan.{Step, step, young, turn, Steps, Tells}
 use Rattle.script.proofs.Noting.{apart}
 
 -- what stands in a list is found in it

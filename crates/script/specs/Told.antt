@@ -5,8 +5,7 @@ use Rattle.rules.specs.declared.Kind.{Kind}
 use Rattle.rules.specs.declared.Kind.TheVariants.{B, N}
 use Rattle.rules.specs.Row.{before, node, nodes, kind_of}
 use Rattle.street.specs.Order.{capacity}
-use Rattle.steps.specs.declared.plan.Step.{Step}
-use Rattle.steps.specs.Plan.{step, turn_kind, touches, young, turn, Tells}
+use Rattle.steps.specs.Plan.{Step, step, turn_kind, touches, young, turn, Tells}
 
 -- the kind of node i with label x, by the first and the last node that carry it
 unfoldable pub kind_by : (x first last i : ℕ) → Kind

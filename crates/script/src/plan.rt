@@ -20,10 +20,7 @@ pub fn tell(labels: &Labels, plan: &mut [Step; 512])
         let at = usize::from(*x);
         let turn = turn_at(&mut nets, i + 1, *x, labels.first[at], labels.last[at]);
         let Some(step) = turn else {
-            plan[i] = Step {
-                turn: Turn::Begins,
-                count: CAPACITY as u8,
-            };
+            plan[i] = Step::new(Turn::Begins, CAPACITY as u8);
             return;
         };
         plan[i] = step;
@@ -38,31 +35,19 @@ fn turn_at(nets: &mut OpenNets, i: usize, x: u8, first: u16, last: u16) -> Optio
 {
     let count = nets.count() as u8;
     if x == BLANK {
-        return Some(Step {
-            turn: Turn::Rests,
-            count,
-        });
+        return Some(Step::new(Turn::Rests, count));
     }
     if usize::from(first) == i {
         if usize::from(count) == CAPACITY {
             return None;
         }
         nets.begin(x);
-        return Some(Step {
-            turn: Turn::Begins,
-            count,
-        });
+        return Some(Step::new(Turn::Begins, count));
     }
     let age = nets.age(x);
     if usize::from(last) == i {
         nets.end(x);
-        return Some(Step {
-            turn: Turn::Ends(age),
-            count,
-        });
+        return Some(Step::new(Turn::Ends(age), count));
     }
-    Some(Step {
-        turn: Turn::Meets(age),
-        count,
-    })
+    Some(Step::new(Turn::Meets(age), count))
 }

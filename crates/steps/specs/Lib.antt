@@ -7,3 +7,4 @@ pub mod Four
 pub mod Masks
 pub mod Nodes
 pub mod Opening
+pub mod Fields

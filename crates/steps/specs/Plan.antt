@@ -9,9 +9,12 @@ use Rattle.rules.specs.Row.{before, Node, node}
 use Rattle.rules.specs.Street.{kind}
 use Rattle.steps.specs.declared.plan.Turn.{Turn}
 use Rattle.steps.specs.declared.plan.Turn.TheVariants.{Begins, Meets, Ends, Rests}
-use Rattle.steps.specs.declared.plan.Step.{Step}
 
--- a node as the passes see it: its turn, and the open nets before it
+-- a node as the passes see it: its turn, and how many nets are open before it
+pub record Step : Type 0 where
+  pub turn : Turn
+  pub count : ℕ
+
 abbrev pub step : (turn : Turn) (count : ℕ) → Step
 step t b = record { turn = t; count = b }
 

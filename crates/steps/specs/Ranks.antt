@@ -8,8 +8,7 @@ use Rattle.rules.specs.declared.Kind.{Kind}
 use Rattle.rules.specs.declared.Kind.TheVariants.{B, M, E, N}
 use Rattle.rules.specs.Street.{fits, fits_at}
 use Rattle.rules.specs.Judgement.{left}
-use Rattle.steps.specs.declared.plan.Step.{Step}
-use Rattle.steps.specs.Plan.{turn_kind, turn_age}
+use Rattle.steps.specs.Plan.{Step, turn_kind, turn_age}
 
 -- the most nets that can be open: two streets have at most six tracks. The positions that the limits allow are below it.
 abbrev pub capacity : ℕ

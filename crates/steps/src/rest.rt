@@ -58,7 +58,7 @@ pub fn prune_same(work: &mut [u8], g: usize, stop: Stop)
     requires by_index { (x : ℕ) → marked work.old (suc g) x ≡ true → Reached stop work.old (suc g) x }
     ensures { Loses work.old g (Onward stop work.old (suc g)) work.new }
 {
-    match stop.step.count {
+    match stop.step.count() {
         0..=4 => copy_back(work, g, 0, 1),
         5 => copy_back(work, g, 1, 4),
         _ => {

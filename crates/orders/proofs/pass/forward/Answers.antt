@@ -1,7 +1,7 @@
 -- `orders::pass::forward` meets its contract. The loop's invariant: the gaps passed hold exactly the ranks of ways.
 use native.Mathlib.Omega.{arith}
 use Rattle.orders.proofs.Filling.{fills-start, fills-cleared, fills-ranks, fills-step, fills-stuck, fills-end}
-use Rattle.orders.proofs.Nodes.{stop-ready, stop-behind}
+use Rattle.orders.proofs.Nodes.{step-read, stop-ready, stop-behind}
 use Rattle.orders.proofs.pass.forward.Goals as goal
 
 pub loop-g-init : goal.loop-g-init
@@ -15,6 +15,7 @@ spread-requires c =
     let d = c.clear in
     let f = fills-cleared a.plan.now a.streets a.work.now c.requires l.g l.work d.new.work l.invariant d.ensures in
     let p = f.passes in
+    rw (step-read a.plan.now l.g c.index-plan-g.result t c.index-plan-g.is)
     record {
       given = record {
         sound = (stop-ready a.plan.now a.streets l.g t a.work.now p.end c.requires p.way).0;
@@ -33,7 +34,8 @@ returns-then-spread c =
     let d = c.clear in
     let f = fills-cleared a.plan.now a.streets a.work.now c.requires l.g l.work d.new.work l.invariant d.ensures in
     let w = c.spread in (
-      fills-stuck a.plan.now a.streets a.work.now c.requires l.g d.new.work w.new.work t f w.ensures.exactly
+      fills-stuck a.plan.now a.streets a.work.now c.requires l.g d.new.work w.new.work t f
+          (rw (step-read a.plan.now l.g c.index-plan-g.result t c.index-plan-g.is) at w.ensures.exactly)
           (rw c.if-spread.true at w.ensures.bare),
       t,
     )
@@ -46,8 +48,8 @@ loop-g-preserved c =
     let d = c.clear in
     let f = fills-cleared a.plan.now a.streets a.work.now c.requires l.g l.work d.new.work l.invariant d.ensures in
     let w = c.spread in
-    fills-step a.plan.now a.streets a.work.now c.requires l.g d.new.work w.new.work t f w.ensures.exactly
-    (rw c.if-spread.false at w.ensures.bare)
+    fills-step a.plan.now a.streets a.work.now c.requires l.g d.new.work w.new.work t f
+    (rw (step-read a.plan.now l.g c.index-plan-g.result t c.index-plan-g.is) at w.ensures.exactly) (rw c.if-spread.false at w.ensures.bare)
 
 pub returns : goal.returns
 returns c =

@@ -3,7 +3,7 @@ use mathlib.Core.Path.{◌≡◌}
 use Prim.Native.Nat.{suc, ◌-◌}
 use native.Mathlib.Omega.{arith}
 use Rattle.orders.proofs.Pruning.{prunes-start, mark-ranks, mark-reached, prunes-step, prunes-end}
-use Rattle.orders.proofs.Nodes.{stop-sound}
+use Rattle.orders.proofs.Nodes.{step-read, stop-sound}
 use Rattle.orders.proofs.pass.prune.Goals as goal
 
 pub loop-g-init : goal.loop-g-init
@@ -19,6 +19,7 @@ prune_set-requires c =
     let t = c.loop-g-test.true in
     let ei : l.g ≡ suc (l.g - 1) = omega (arith, t) in
     let eh : l.g - 1 ≡ suc (l.g - 1 - 1) = omega (arith, t) in
+    rw (step-read a.plan.now (l.g - 1) c.index-plan-g.result (omega (arith, l.invariant.node, t)) c.index-plan-g.is)
     record {
       given = record {
         sound = stop-sound a.plan.now a.streets (l.g - 1) a.work.now (omega (arith, l.invariant.node, t)) h.given h.passable;
@@ -37,7 +38,7 @@ loop-g-preserved c =
     let ei : l.g ≡ suc (l.g - 1) = omega (arith, t) in
     let eh : l.g - 1 ≡ suc (l.g - 1 - 1) = omega (arith, t) in
     prunes-step a.plan.now a.streets a.work.now h.given h.filled l.g (l.g - 1) (l.g - 1 - 1) l.work ei eh l.invariant c.prune_set.new.work
-    c.prune_set.ensures
+    (rw (step-read a.plan.now (l.g - 1) c.index-plan-g.result (omega (arith, l.invariant.node, t)) c.index-plan-g.is) at c.prune_set.ensures)
 
 pub returns : goal.returns
 returns c =

@@ -1,5 +1,7 @@
 -- Each node of the walk is one of the first way, by `walks_more`.
-use Rattle.std.proofs.Common.{arith, ◌∙◌}
+use Rattle.std.proofs.Common.{arith, ap, ◌∙◌}
+use Rattle.steps.specs.Plan.{turn_kind}
+use Rattle.orders.proofs.Nodes.{step-read}
 use Rattle.router.proofs.Walking.{walks-none, in-row, walks-standing, walks_more, walks-end}
 use Rattle.router.proofs.walk.walk.Goals as goal
 
@@ -18,7 +20,8 @@ pub stand-after-requires : goal.stand-after-requires
 stand-after-requires c =
     let a = c.args in
     let l = c.loop-i in
-    walks-standing a.row.now a.plan.now a.streets a.work.now c.requires l.entries l.held l.i l.rank l.invariant c.loop-i-test.true
+    rw (step-read a.plan.now l.i c.index-plan-i.result c.loop-i-test.true c.index-plan-i.is)
+    (walks-standing a.row.now a.plan.now a.streets a.work.now c.requires l.entries l.held l.i l.rank l.invariant c.loop-i-test.true)
 
 pub listed : goal.listed
 listed c =
@@ -36,8 +39,10 @@ pub loop-i-preserved : goal.loop-i-preserved
 loop-i-preserved c =
     let a = c.args in
     let l = c.loop-i in
+    let s = step-read a.plan.now l.i c.index-plan-i.result c.loop-i-test.true c.index-plan-i.is in
     walks_more a.row.now a.plan.now a.streets a.work.now c.requires l.entries l.held l.i l.rank l.invariant c.loop-i-test.true
-    c.new.result c.stand-after.result.0.rest c.stand-after.result.1 (c.new.ensures.kind ∙ c.from.ensures) (rw c.new.ensures.above c.stand-after.ensures)
+    c.new.result c.stand-after.result.0.rest c.stand-after.result.1 (rw s at (c.new.ensures.kind ∙ c.from.ensures ∙ ap turn_kind c.turn.ensures))
+    (rw (c.new.ensures.above) (rw s at c.stand-after.ensures))
 
 pub returns : goal.returns
 returns c =

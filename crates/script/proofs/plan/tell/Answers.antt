@@ -17,8 +17,9 @@ pub returns-in_default : goal.returns-in_default
 returns-in_default c =
     let l = c.loop-i in
     let r = c.args.labels.now in
-    telling-full r.row.now r.first.now r.last.now l.plan l.nets l.i r.tabled c.requires l.invariant c.loop-i-test.true
-    (rw (c.from-at.ensures, add-one l.i) at c.in_default.ensures)
+    rw c.new.ensures
+    (telling-full r.row.now r.first.now r.last.now l.plan l.nets l.i r.tabled c.requires l.invariant c.loop-i-test.true
+    (rw (c.from-at.ensures, add-one l.i) at c.in_default.ensures))
 
 pub loop-i-preserved : goal.loop-i-preserved
 loop-i-preserved c =
