@@ -1,9 +1,12 @@
 // The first placing by layers: after each node the list of all distinct orders that the rest of the row can be completed from.
+ghost use Rattle.std.specs.Prelude.{◌≡◌, IfOk, length};
+
 use crate::nets::{Kind, Node};
 use crate::orders::Order;
 use crate::passage::Passage;
 use crate::placing::{PlaceError, Placing};
 use crate::streets::Streets;
+use std::alloc::{AllocError, Global};
 
 // A layer that is being made at the start of what is lent for it.
 #[derive(Drop)]
@@ -180,13 +183,140 @@ pub fn search(
     Ok(())
 }
 
-// A row's first placing, by layers in memory of their own; or which is the first node that no choice serves.
-pub fn place(mut placing: Placing) -> Result<Placing, PlaceError> {
+// The layer that another one leads to across a node where a net begins, in memory of its own. Each order leads to one for each place that the limits allow. No `count` of the
+// places, which asks beforehand that they are fewer than 2^64.
+fn begun(
+    alloc: Global,
+    from: &[Order],
+    node: Node,
+    streets: Streets,
+) -> Result<Vec<Order>, AllocError> {
+    let places = (0..node.open)
+        .filter(|position| streets.fits(*position, node.open))
+        .fold(0, |places, _| usize::saturating_add(places, 1));
+    let mut layer = vec![in alloc; Order::new(); from.len().saturating_mul(places)]?;
+    let count = across(from, node, streets, &mut layer);
+    layer.truncate(count);
+    Ok(layer)
+}
+
+// The order that another one leads to across a node where no net begins, if it leads to one.
+fn next(order: &Order, node: Node, streets: Streets) -> Option<Order> {
+    let passage = Passage {
+        order: *order,
+        node,
+        streets,
+    };
+    (0..=node.open).find_map(|position| passage.after(position))
+}
+
+// The layer across a node where a net ends, in memory of its own that grows, since two orders may lead to the same one.
+fn ended(
+    alloc: Global,
+    from: &[Order],
+    node: Node,
+    streets: Streets,
+) -> Result<Vec<Order>, AllocError> {
+    let mut layer = Vec::new(alloc);
+    for after in from.iter().filter_map(|order| next(order, node, streets)) {
+        if !layer.contains(&after) {
+            layer.push(after)?;
+        }
+    }
+    Ok(layer)
+}
+
+// The layer that another one leads to across a node. Where no net begins or ends those orders stay that lead on.
+fn crossed(
+    alloc: Global,
+    mut layer: Vec<Order>,
+    node: Node,
+    streets: Streets,
+) -> Result<Vec<Order>, AllocError> {
+    match node.kind {
+        Kind::First => begun(alloc, &layer, node, streets),
+        Kind::Last => ended(alloc, &layer, node, streets),
+        Kind::Inner | Kind::Blank => {
+            layer.retain(|order| next(order, node, streets).is_some());
+            Ok(layer)
+        }
+    }
+}
+
+// The layer at an end of the row, in memory of its own.
+fn at_end(alloc: Global) -> Result<Vec<Order>, AllocError> {
+    Ok(vec![in alloc; Order::new()]?)
+}
+
+// Fails as `test_forward` does, in memory of its own, which has at most two layers at a time.
+fn test_passable(alloc: Global, nodes: &[Node], streets: Streets) -> Result<(), PlaceError> {
+    let mut layer = at_end(alloc)?;
+    for (i, node) in nodes.iter().enumerate() {
+        layer = crossed(alloc, layer, *node, streets)?;
+        if layer.is_empty() {
+            return Err(PlaceError::Stuck(i));
+        }
+    }
+    Ok(())
+}
+
+// How many orders the layers have that `complete` makes and `choose_first` needs, of which at most two are kept here at a time.
+fn count_completed(alloc: Global, nodes: &[Node], streets: Streets) -> Result<usize, AllocError> {
+    let mut layer = at_end(alloc)?;
+    let mut count: usize = 0;
+    for node in nodes.iter().rev() {
+        count = count.saturating_add(layer.len());
+        layer = crossed(alloc, layer, turned(node), streets)?;
+    }
+    Ok(count)
+}
+
+// A row's first placing between its streets; or which is the first node that no choice serves. The layers' orders are counted first, and have memory for no more, so that any
+// streets and any nodes serve: `orders_need` goes by tracks and open nets alone, and may be far more, or fewer where the open nets are not those of the row.
+pub fn place(mut placing: Placing) -> Result<Placing, PlaceError>
+    ensures { IfOk result (λ p. (p.streets ≡ placing.streets) × (length p.nodes.items ≡ length placing.nodes.items)) }
+{
     let alloc = *placing.nodes.allocator();
     let streets = placing.streets;
-    let need = orders_need(&placing.nodes, streets);
-    let mut orders = vec![in alloc; Order::new(); need]?;
+    test_passable(alloc, &placing.nodes, streets)?;
+    let count = count_completed(alloc, &placing.nodes, streets)?;
+    let mut orders = vec![in alloc; Order::new(); count]?;
     let mut starts = vec![in alloc; 0; placing.nodes.len()]?;
-    search(&mut placing.nodes, streets, &mut orders, &mut starts).map_err(PlaceError::Stuck)?;
+    let end = complete(&placing.nodes, streets, &mut orders, &mut starts);
+    choose_first(&mut placing.nodes, streets, &orders, &starts, end);
     Ok(placing)
+}
+
+#[cfg(test)]
+mod tests {
+    use super::*;
+
+    // With no lower street a new net goes below all others.
+    const STREETS: Streets = Streets {
+        upper: 30,
+        lower: 0,
+    };
+
+    // 22 nets, each within those before it.
+    const NESTED: &[u8] = b"abcdefghijklmnopqrstuvvutsrqponmlkjihgfedcba";
+
+    // The layers of the row have one order each, where its open nets have up to 22!. An order has places for eight of them, so that the last one is missed at its end.
+    #[test]
+    fn memory_grows_with_the_layers(rt: HostRuntime) {
+        let placing = Placing::of_row(rt.alloc(), NESTED, STREETS).and_then(place);
+        assert!(rt; matches!(placing, Err(PlaceError::Stuck(22))));
+    }
+
+    #[test]
+    fn eight_tracks_are_placed(rt: HostRuntime) {
+        let placing = Placing::of_row(rt.alloc(), b"abcdefghhgfedcba", STREETS).and_then(place);
+        let wanted = [0, 1, 2, 3, 4, 5, 6, 7, 7, 6, 5, 4, 3, 2, 1, 0];
+        assert!(rt;
+            placing.is_ok_and(|placing| placing
+                .nodes
+                .iter()
+                .map(|node| node.position)
+                .eq(wanted.iter().copied()))
+        );
+    }
 }

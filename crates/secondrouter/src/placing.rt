@@ -1,4 +1,6 @@
 // A row's nodes and their positions between two streets.
+ghost use Rattle.std.specs.Prelude.{◌≡◌, IfOk};
+
 use crate::nets::{Node, nodes_of};
 use crate::streets::Streets;
 use std::alloc::{AllocError, Global};
@@ -28,7 +30,9 @@ impl From<AllocError> for PlaceError {
 
 impl Placing {
     // The nodes of a row, all at position 0; or the first node with a label that stands there only.
-    pub fn of_row(alloc: Global, row: &[u8], streets: Streets) -> Result<Placing, PlaceError> {
+    pub fn of_row(alloc: Global, row: &[u8], streets: Streets) -> Result<Placing, PlaceError>
+        ensures { IfOk result (λ p. p.streets ≡ streets) }
+    {
         let nodes = nodes_of(alloc, row)?;
         Ok(Placing { streets, nodes })
     }

@@ -1,4 +1,6 @@
 // One row under one pair of streets: every answer and every byte of the library against the second router's.
+ghost use Rattle.std.specs.Prelude.{◌≡◌, IfOk};
+
 use answers::Said;
 use filmtrials::films::SheetTrial;
 use secondfilm::sheets::{packed, sheet_need, work_need};
@@ -19,6 +21,9 @@ use tallies::tally::Tally;
 const WORK: usize = 46208;
 
 const SHEET: usize = 640;
+
+// The most orders that are kept for layers: at most 512 nodes have as many as six nets. Only rows that the router does not take have layers that may need more.
+const ORDERS: usize = 512 * 720 + 1;
 
 // The longest rows that the depth first search of the second router places too.
 const SHORT: usize = 9;
@@ -201,15 +206,26 @@ impl<'a, R: Print> Trials<'a, R> {
         })
     }
 
-    // A row's first placing by layers, in memory that is kept from one row to the next.
-    fn place_by_layers(&mut self, row: &[u8], streets: Streets) -> Result<Placing, PlaceError> {
+    // Keeps memory for so many orders and so many nodes.
+    fn keep(&mut self, orders: usize, nodes: usize) -> Result<(), AllocError> {
+        if self.orders.len() < orders {
+            self.orders.resize(orders, Order::new())?;
+        }
+        if self.starts.len() < nodes {
+            self.starts.resize(nodes, 0)?;
+        }
+        Ok(())
+    }
+
+    // A row's first placing by layers, in memory that is kept from one row to the next; or in its own, which grows with the layers, where as much as they may need is not
+    // to be kept or not to be had.
+    fn place_by_layers(&mut self, row: &[u8], streets: Streets) -> Result<Placing, PlaceError>
+        ensures { IfOk result (λ p. p.streets ≡ streets) }
+    {
         let mut placing = Placing::of_row(self.alloc, row, streets)?;
         let need = layers::orders_need(&placing.nodes, streets);
-        if self.orders.len() < need {
-            self.orders.resize(need, Order::new())?;
-        }
-        if self.starts.len() < row.len() {
-            self.starts.resize(row.len(), 0)?;
+        if ORDERS < need || self.keep(need, row.len()).is_err() {
+            return layers::place(placing);
         }
         layers::search(
             &mut placing.nodes,
@@ -268,5 +284,26 @@ impl<'a, R: Print> Trials<'a, R> {
     // Prints the counts over all sources.
     pub fn report(&self) -> io::Result<()> {
         self.tally.report(self.rt)
+    }
+}
+
+#[cfg(test)]
+mod tests {
+    use super::*;
+
+    // The second router has an answer between streets that the router does not take, however many orders its nets could have: with 16 nets it says at which node they fail,
+    // and the router says 2. That is one disagreement, and the number of the one that is counted here is 2.
+    #[test]
+    fn wide_streets_are_tried(rt: HostRuntime) {
+        let row = b"abcdefghijklmnopponmlkjihgfedcba";
+        let streets = Streets {
+            upper: 30,
+            lower: 0,
+        };
+        let Ok(mut trials) = Trials::new(&rt, rt.alloc()) else {
+            panic!(rt; "no memory for trials");
+        };
+        assert!(rt; trials.test_row(row, streets).is_ok());
+        assert!(rt; trials.tally.count(Count::Disagreements) == 2);
     }
 }
