@@ -1,9 +1,9 @@
 // A sheet's film: what the drawer says of the sheet and draws, against the second router's wires.
 use answers::Said;
 use secondfilm::records::Place;
-use secondfilm::sheets::records;
-use secondfilm::wires::{Film, LEVELS, LentFilm, Point};
-use secondreader::picture::shows_wires;
+use secondfilm::sheets::{record_count, records};
+use secondfilm::wires::{Film, FilmError, LEVELS, LentFilm, Point};
+use secondreader::picture::{shows, shows_wires};
 use secondrouter::nets::Node;
 use secondrouter::placing::Placing;
 use secondrouter::streets::Streets;
@@ -79,6 +79,21 @@ fn try_short(film: &mut [u8], trial: &mut SheetTrial, need: usize) -> Result<(),
     try_call(film, trial, call)
 }
 
+// Fails where the drawer does not draw a sheet without a fault in so many records.
+fn try_drawer(film: &mut [u8], trial: &mut SheetTrial, records: usize) -> Result<(), Finding> {
+    let need = film_need(records);
+    try_short(film, trial, need)?;
+    let call = Call {
+        part: Part::Drawer,
+        lent: need.saturating_add(trial.seed % 9),
+        wanted: Said {
+            number: 0,
+            place: records,
+        },
+    };
+    try_call(film, trial, call)
+}
+
 // Fails where the film breaks the wire rules, or does not show the very wires of the sheet.
 fn try_wires(
     film: &[u8],
@@ -117,19 +132,15 @@ pub fn drawing_fault(
         places,
     } = lent;
     let records = records(nodes, streets, nets);
-    let need = film_need(records);
-    try_short(film, trial, need)?;
-    let call = Call {
-        part: Part::Drawer,
-        lent: need.saturating_add(trial.seed % 9),
-        wanted: Said {
-            number: 0,
-            place: records,
-        },
-    };
-    try_call(film, trial, call)?;
+    try_drawer(film, trial, records)?;
     let mut points = LentFilm::new(columns, places, nodes.len());
-    try_wires(part(film, need), &mut points, trial, nodes, streets)?;
+    try_wires(
+        part(film, film_need(records)),
+        &mut points,
+        trial,
+        nodes,
+        streets,
+    )?;
     Ok(())
 }
 
@@ -159,19 +170,66 @@ impl FilmTrials {
         })
     }
 
-    // Tries the film of a sheet without a fault, which has so many nets.
+    // Fails where the film breaks the wire rules, or does not show the very wires of a placing.
+    fn try_points(
+        &mut self,
+        tally: &mut Tally,
+        sheet: &Placing,
+        records: usize,
+    ) -> Result<(), Failure> {
+        let film = part(&self.film, film_need(records));
+        match self.points.count_points(film, sheet) {
+            Ok(points) => tally.count_film(records, points),
+            Err(FilmError::Broken) => return Err(Part::Wires.fails().into()),
+            Err(FilmError::Memory(error)) => return Err(error.into()),
+        }
+        Ok(Part::Wires.holds(shows(&mut self.points, sheet))?)
+    }
+
+    // Tries the film of a sheet without a fault, which has so many nets. The memory of its points is taken once the drawer has answered as it has to.
     pub fn try_legal(
         &mut self,
         trial: &mut SheetTrial,
         sheet: &Placing,
         nets: usize,
     ) -> Result<(), Failure> {
-        let lent = self.lent(sheet.nodes.len())?;
-        Ok(drawing_fault(lent, trial, &sheet.nodes, sheet.streets, nets)?)
+        let records = record_count(sheet, nets);
+        try_drawer(&mut self.film, trial, records)?;
+        self.try_points(trial.tally, sheet, records)
     }
 
     // Tries that the drawer refuses a sheet with an answer, and leaves the film as it was, however long it is.
     pub fn try_refused(&mut self, trial: &mut SheetTrial, wanted: Said) -> Result<(), Failure> {
         Ok(refusal_fault(&mut self.film, trial, wanted)?)
+    }
+}
+
+#[cfg(test)]
+mod tests {
+    use super::*;
+    use secondfilm::sheets::packed;
+    use secondrouter::layers::place;
+    use std::array;
+
+    // 70 nets of two nodes each: a walk begins at so many pins at once, more than the places that it is given at first.
+    #[test]
+    fn many_nets_are_walked(rt: HostRuntime) {
+        let row: [u8; 140] = array::from_fn(|i| (i / 2) as u8);
+        let streets = Streets { upper: 1, lower: 1 };
+        let Ok(placing) = Placing::of_row(rt.alloc(), &row, streets).and_then(place) else {
+            panic!(rt; "no placing");
+        };
+        let (Ok(sheet), Ok(mut films)) = (packed(&placing), FilmTrials::new(rt.alloc())) else {
+            panic!(rt; "no memory");
+        };
+        let mut tally = Tally::default();
+        let mut trial = SheetTrial {
+            tally: &mut tally,
+            sheet: &sheet,
+            row: &row,
+            seed: 1,
+        };
+        assert!(rt; films.try_legal(&mut trial, &placing, 70).is_ok());
+        assert!(rt; films.try_legal(&mut trial, &placing, 71).is_err());
     }
 }

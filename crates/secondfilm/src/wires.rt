@@ -8,6 +8,9 @@ use std::mem;
 
 pub const LEVELS: usize = 9;
 
+// How many places a walk is given at first.
+const FEW: usize = 64;
+
 // Why a film is not one of a placing's. `JudgeError` and `Failure` have a cause beside `Memory` too: in one generic enum each cause would be matched inside
 // `Cause(..)`, and this one would be `Cause(())`.
 #[derive(Clone, Copy, PartialEq, Eq)]
@@ -147,8 +150,8 @@ pub struct LentFilm<'a> {
 }
 
 impl<'a> LentFilm<'a> {
-    // The film of so many nodes, with no record, in the first of the columns. Where fewer columns or places are lent than `columns_need` and `places_need` say, it counts
-    // as broken.
+    // The film of so many nodes, with no record, in the first of the columns. Where fewer columns are lent than `columns_need` says, or fewer places than a walk has at a
+    // time, which are never more than `places_need` says, it counts as broken.
     pub fn new(
         columns: &'a mut [[Point; LEVELS]],
         open: &'a mut [Place],
@@ -209,6 +212,11 @@ impl<'a> LentFilm<'a> {
         *self.open.get_mut(self.height).ok_or(Broken)? = place;
         self.height = self.height.saturating_add(1);
         Ok(())
+    }
+
+    // Whether there is no room for one more.
+    fn is_full(&self) -> bool {
+        self.height == self.open.len()
     }
 
     // The place that was listed last, which is taken off the list.
@@ -314,6 +322,11 @@ impl<'a> LentFilm<'a> {
     ) -> Result<usize, Broken> {
         self.lay_all(film, streets)?;
         self.walk(nodes)?;
+        self.count_walked(nodes)
+    }
+
+    // Tests the rules that are asked behind a walk, and gives how many points the records have.
+    fn count_walked(&self, nodes: &[Node]) -> Result<usize, Broken> {
         self.test_pins(nodes)?;
         self.test_points()?;
         Ok(self.count())
@@ -371,11 +384,41 @@ impl Film {
         self.lent().take(run)
     }
 
-    // Tests all wire rules on a film's records of a placing, and gives how many points they have.
+    // Has the columns of the film of so many nodes, or none where memory runs out.
+    fn widen(&mut self, nodes: usize) -> Result<(), AllocError> {
+        let columns = columns_need(nodes);
+        let widened = self.columns.resize(columns, [Point::default(); LEVELS]);
+        if widened.is_err() {
+            self.columns.clear();
+        }
+        widened
+    }
+
+    // Has twice as many places for a walk, or a few at first.
+    fn add_places(&mut self) -> Result<(), AllocError> {
+        let column = 0;
+        let level = 0;
+        let more = self.open.len().saturating_mul(2).max(FEW);
+        self.open.resize(more, Place { column, level })
+    }
+
+    // Tests all wire rules on a film's records of a placing, and gives how many points they have. A walk mostly has far fewer places at a time than `places_need` says, so
+    // that it begins anew with twice as many where it ends with no room for one more; in as many turns as a number has bits it finds room, or memory runs out.
     pub fn count_points(&mut self, film: &[u8], placing: &Placing) -> Result<usize, FilmError> {
         let nodes: &[Node] = &placing.nodes;
-        let (columns, places) = self.room(nodes.len())?;
-        Ok(LentFilm::new(columns, places, nodes.len()).count_points(film, nodes, placing.streets)?)
+        self.widen(nodes.len())?;
+        for _ in 0..usize::BITS {
+            let mut lent = LentFilm::new(&mut self.columns, &mut self.open, nodes.len());
+            lent.lay_all(film, placing.streets)?;
+            if lent.walk(nodes).is_ok() {
+                return Ok(lent.count_walked(nodes)?);
+            }
+            if !lent.is_full() {
+                return Err(FilmError::Broken);
+            }
+            self.add_places()?;
+        }
+        Err(FilmError::Broken)
     }
 
     // Whether no step is left.

@@ -3,9 +3,10 @@ use crate::agreement::{Agreement, agreement_fault};
 use answers::Said;
 use filmtrials::films::{FilmTrials, LentFilms, SheetTrial, drawing_fault};
 use secondreader::judge::{
-    Fault, MOST_NODES, first_fault, node_count, number_nets, read_head, reader_answer,
+    Fault, Head, MOST_NODES, first_fault, node_count, number_nets, read_head, reader_answer,
 };
 use secondrouter::nets::{Kind, Node, numbers};
+use secondrouter::placing::Placing;
 use secondrouter::streets::Streets;
 use std::alloc::{AllocError, Global};
 use tallies::failure::{Failure, Finding, Part};
@@ -116,8 +117,20 @@ fn reading(nodes: &[Node], nets: usize) -> Wanted<'_> {
     }
 }
 
-// What is wrong with the answers to the sheet of an accepted row, if anything is. The second router's judgement has to take it, and to give back the numbers of the row's
-// nets. What is lent: `back` for the row that the reader gives back, `near` for rows near the trial's, with a byte for each of its nodes, and what the film needs.
+// What the second router makes of the sheet of an accepted row: its head, and how many nets its nodes have, which are then the first of those that are lent. It has to take
+// the sheet, and to give back the numbers of the row's nets.
+fn judge_own(trial: &SheetTrial, nodes: &mut [Node; MOST_NODES]) -> Result<(Head, usize), Finding> {
+    let Ok(head) = first_fault(trial.sheet, nodes) else {
+        return Err(Part::SecondRouter.fails());
+    };
+    let nodes = first(nodes, head.nodes);
+    let nets = number_nets(nodes);
+    Part::SecondRouter.holds(is_numbered(trial.row, nodes))?;
+    Ok((head, nets))
+}
+
+// What is wrong with the answers to the sheet of an accepted row, if anything is. What is lent: `back` for the row that the reader gives back, `near` for rows near the
+// trial's, with a byte for each of its nodes, and what the film needs.
 pub fn row_fault(
     back: &mut [u8],
     near: &mut [u8],
@@ -125,12 +138,8 @@ pub fn row_fault(
     trial: &mut SheetTrial,
 ) -> Result<(), Finding> {
     let mut nodes = [Node::new(Kind::Blank, 0); MOST_NODES];
-    let Ok(head) = first_fault(trial.sheet, &mut nodes) else {
-        return Err(Part::SecondRouter.fails());
-    };
+    let (head, nets) = judge_own(trial, &mut nodes)?;
     let nodes = first(&mut nodes, head.nodes);
-    let nets = number_nets(nodes);
-    Part::SecondRouter.holds(is_numbered(trial.row, nodes))?;
     try_readings(back, near, trial, reading(nodes, nets))?;
     drawing_fault(films, trial, nodes, head.streets, nets)?;
     Ok(())
@@ -140,6 +149,8 @@ pub fn row_fault(
 #[derive(Drop)]
 pub struct SheetTrials {
     back: Vec<u8>,
+    // The nodes of the sheet that is tried, where it has no fault.
+    sheet: Placing,
     agreement: Agreement,
     films: FilmTrials,
 }
@@ -149,24 +160,29 @@ impl SheetTrials {
     pub fn new(alloc: Global) -> Result<SheetTrials, AllocError> {
         Ok(SheetTrials {
             back: vec![in alloc; 0; ROW]?,
+            sheet: Placing {
+                streets: Streets::nth(0),
+                nodes: Vec::new(alloc),
+            },
             agreement: Agreement::new(alloc),
             films: FilmTrials::new(alloc)?,
         })
     }
 
-    // Tries a sheet without a fault.
+    // Tries a sheet without a fault, whose nodes have the numbers of so many nets.
     fn try_legal(
         &mut self,
         trial: &mut SheetTrial,
-        nodes: &mut [Node],
+        nodes: &[Node],
         streets: Streets,
+        nets: usize,
     ) -> Result<(), Failure> {
-        let nets = number_nets(nodes);
         let near = self.agreement.lent(trial.row.len())?;
         try_readings(&mut self.back, near, trial, reading(nodes, nets))?;
-        let films = self.films.lent(nodes.len())?;
-        drawing_fault(films, trial, nodes, streets, nets)?;
-        Ok(())
+        self.sheet.streets = streets;
+        self.sheet.nodes.clear();
+        self.sheet.nodes.extend_from_slice(nodes)?;
+        self.films.try_legal(trial, &self.sheet, nets)
     }
 
     // Tries a sheet that has to be refused with an answer.
@@ -180,15 +196,61 @@ impl SheetTrials {
     pub fn try_sheet(&mut self, trial: &mut SheetTrial) -> Result<(), Failure> {
         let mut nodes = [Node::new(Kind::Blank, 0); MOST_NODES];
         match first_fault(trial.sheet, &mut nodes) {
-            Ok(head) => self.try_legal(trial, first(&mut nodes, head.nodes), head.streets),
+            Ok(head) => {
+                let nodes = first(&mut nodes, head.nodes);
+                let nets = number_nets(nodes);
+                self.try_legal(trial, nodes, head.streets, nets)
+            }
             Err(fault) => self.try_illegal(trial, refusal(fault)),
         }
     }
 
-    // Tries the sheet of an accepted row.
+    // Tries the sheet of an accepted row, with memory for its own nodes once it is judged.
     pub fn try_own(&mut self, trial: &mut SheetTrial) -> Result<(), Failure> {
-        let near = self.agreement.lent(trial.row.len())?;
-        let films = self.films.lent(MOST_NODES)?;
-        Ok(row_fault(&mut self.back, near, films, trial)?)
+        let mut nodes = [Node::new(Kind::Blank, 0); MOST_NODES];
+        let (head, nets) = judge_own(trial, &mut nodes)?;
+        self.try_legal(trial, first(&mut nodes, head.nodes), head.streets, nets)
+    }
+}
+
+#[cfg(test)]
+mod tests {
+    use super::*;
+    use tallies::tally::Tally;
+
+    // A specimen of document 01 with the row that it is the sheet of.
+    fn specimen(tally: &mut Tally) -> SheetTrial<'_> {
+        SheetTrial {
+            tally,
+            sheet: &[0x14, 0x04, 0x00, 0x08, 0x60],
+            row: &[0, 1, 0, 1],
+            seed: 0,
+        }
+    }
+
+    #[test]
+    fn a_sheet_is_its_rows(rt: HostRuntime) {
+        let Ok(mut sheets) = SheetTrials::new(rt.alloc()) else {
+            panic!(rt; "no memory");
+        };
+        let mut tally = Tally::default();
+        let mut trial = specimen(&mut tally);
+        assert!(rt; sheets.try_own(&mut trial).is_ok());
+        trial.row = &[0, 1, 1, 0];
+        assert!(rt; matches!(sheets.try_own(&mut trial), Err(Failure::Found(_))));
+        assert!(rt; sheets.try_sheet(&mut trial).is_ok());
+    }
+
+    #[test]
+    fn lent_memory_serves_as_well(rt: HostRuntime) {
+        let Ok(mut own) = FilmTrials::new(rt.alloc()) else {
+            panic!(rt; "no memory");
+        };
+        let Ok(films) = own.lent(4) else {
+            panic!(rt; "no memory");
+        };
+        let mut tally = Tally::default();
+        let mut trial = specimen(&mut tally);
+        assert!(rt; row_fault(&mut [0; 16], &mut [0; 4], films, &mut trial).is_ok());
     }
 }
